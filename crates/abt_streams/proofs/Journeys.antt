@@ -1,5 +1,5 @@
 -- A run on lives: its start, a wave more, and its end.
-use Rattle.std.proofs.Common.{◌≡◌, ◌≢◌, ℕ, ◌+◌, ◌≤◌, ◌∙◌, Bool, List, [], ◌∷◌, ◌++◌, length, map, filter, slice_get, Some, Result, Ok, Err, refl, sym, ap, subst, arith}
+use Rattle.std.proofs.Common.{◌≡◌, ◌≢◌, ℕ, ◌+◌, ◌≤◌, ◌∙◌, Bool, true, List, [], ◌∷◌, ◌++◌, length, map, filter, slice_get, Some, Result, Ok, Err, refl, sym, ap, subst, arith}
 use Rattle.std.specs.Prelude.{Contains, IfOk}
 use Rattle.std.specs.List.{All, range_with_len}
 use Rattle.abt_machine.specs.declared.events.Event.{Event}
@@ -27,7 +27,7 @@ use Rattle.abt_commons.specs.Held.{ObjectsValue, object_at}
 use Rattle.abt_commons.specs.Placing.{ArePlaced}
 use Rattle.abt_outcomes.specs.Values.{HaveMade}
 use Rattle.abt_stream.specs.Streams.{StreamValue}
-use Rattle.abt_drain.specs.Crews.{AreStarted, moment_of}
+use Rattle.abt_drain.specs.Crews.{AllKeep, AreStarted, moment_of}
 use Rattle.abt_drain.specs.Looks.{steps_made}
 use Rattle.abt_drain.proofs.Started.{crew-started, is-start}
 use Rattle.abt_drain.proofs.Stopping.{made-same}
@@ -54,12 +54,12 @@ if-ok (Ok a) P Q more known = more a known
 if-ok (Err e) P Q more known = known
 
 -- at the start nothing has come
-pub under-way-at-start : (W : Parts) (Z : Stored) (n : ℕ) (lives : List Life) (objects : ObjectsValue) (streams : List StreamValue) → IsValid W → OrdersStored W Z.orders → AreStarted W n W.streams streams → ArePlaced W objects →
+pub under-way-at-start : (W : Parts) (Z : Stored) (n : ℕ) (lives : List Life) (objects : ObjectsValue) (streams : List StreamValue) → IsValid W → OrdersStored W Z.orders → AreStarted W n W.streams streams → AllKeep true streams → ArePlaced W objects →
     HasLedTo W Z n lives objects streams [] []
-under-way-at-start W Z n lives objects streams valid stored all placed =
+under-way-at-start W Z n lives objects streams valid stored all kept placed =
     let is = is-start W n streams objects all placed in
     record {
-      fleet = crew-is-fleet W Z n (record { workload = W; steps = n; objects = objects; streams = streams }) (crew-started W n streams objects all placed Z valid stored);
+      fleet = crew-is-fleet W Z n (record { workload = W; steps = n; keeps = true; objects = objects; streams = streams }) (crew-started W n streams objects all placed Z true valid stored kept);
       lead = record {
         run = tt;
         stand = record { streams = is.parts; sites = is.objects };
@@ -69,13 +69,14 @@ under-way-at-start W Z n lives objects streams valid stored all placed =
       rise = tt;
       has_logs = record { all = λ s e c. subst (λ (l : List Event). Contains l e) (is.logs s) c; only = λ e c. absurd (to-among [] e c) };
       waves_are = refl;
+      kept = kept;
     }
 
 -- a wave more
 module _ (W : Parts) (Z : Stored) (n : ℕ) (lives : List Life) (are : AreLives W lives) (objects left : ObjectsValue) (streams after : List StreamValue) (J : List Event) (waves : List Wave) (under : HasLedTo W Z n lives objects streams J waves)
     (flags : List Bool) (wave : Wave) (from_is : wave.from ≡ length J) (flags_are : flags ≡ map (is_live_with (object_at objects) lives) (range_with_len 0 W.streams)) (numbers_are : wave.streams ≡ filter (is_live_with (object_at objects) lives) (range_with_len 0 W.streams))
     (makes : MakesWave W Z flags (moment_of W streams objects) (moment_of W after left)) (fleet : IsFleet W Z n left after)
-    (es : List Event) (merged : MergesTo (log_of (behind after (log_lengths streams))) es) where
+    (kept : AllKeep true after) (es : List Event) (merged : MergesTo (log_of (behind after (log_lengths streams))) es) where
   many : length after ≡ length streams
   many = fleet.streams_are.many ∙ sym under.fleet.streams_are.many
 
@@ -101,6 +102,7 @@ module _ (W : Parts) (Z : Stored) (n : ℕ) (lives : List Life) (are : AreLives 
         rise = all-rise W Z (moment_of W streams objects) (moment_of W after left) flags makes es journal J under.below under.rise;
         has_logs = logs-with-wave W Z flags (moment_of W streams objects) (moment_of W after left) makes.wave es journal J under.has_logs;
         waves_are = waves-push W lives (start W) 0 waves J wave es under.waves_are is-wave;
+        kept = kept;
       }
 
   -- it goes on

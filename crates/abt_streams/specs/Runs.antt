@@ -1,5 +1,5 @@
 -- A run on lives between two waves.
-use Rattle.std.specs.Prelude.{ℕ, ◌≡◌, ◌≤◌, List, [], ◌∷◌, Some, All, Contains, ⊤}
+use Rattle.std.specs.Prelude.{ℕ, ◌≡◌, ◌≤◌, true, List, [], ◌∷◌, Some, All, Contains, ⊤}
 use Rattle.abt_machine.specs.declared.events.Event.{Event}
 use Rattle.abt_machine.specs.declared.events.Site.{Site}
 use Rattle.abt_machine.specs.Stored.{Stored}
@@ -9,7 +9,7 @@ use Rattle.abt_machine.specs.Stamps.{AllAfter}
 use Rattle.abt_machine.specs.Start.{start}
 use Rattle.abt_commons.specs.Held.{ObjectsValue}
 use Rattle.abt_stream.specs.Streams.{StreamValue}
-use Rattle.abt_drain.specs.Crews.{moment_of}
+use Rattle.abt_drain.specs.Crews.{AllKeep, moment_of}
 use Rattle.abt_drain.specs.Moments.{LeadTo, Moment}
 use Rattle.abt_waves.specs.Fleets.{IsFleet}
 use Rattle.abt_streams.specs.declared.life.Life.{Life}
@@ -31,7 +31,7 @@ pub record HasLogs (m : Moment) (J : List Event) : Type 0 where
   pub all : (s : ℕ) (e : Event) → Contains (m.logs s) e → Contains J e
   pub only : (e : Event) → Contains J e → Contains (m.logs e.stream.0) e
 
--- the journal, in these waves, has led to these objects and streams
+-- the journal, in these waves, has led to these objects and streams, which keep their events in memory
 pub record HasLedTo (W : Parts) (Z : Stored) (n : ℕ) (lives : List Life) (objects : ObjectsValue) (streams : List StreamValue) (J : List Event) (waves : List Wave) : Type 0 where
   pub fleet : IsFleet W Z n objects streams
   pub lead : LeadTo W Z J (moment_of W streams objects)
@@ -39,3 +39,4 @@ pub record HasLedTo (W : Parts) (Z : Stored) (n : ℕ) (lives : List Life) (obje
   pub rise : RiseWhereShared W J
   pub has_logs : HasLogs (moment_of W streams objects) J
   pub waves_are : AreWaves W lives (start W) 0 waves J
+  pub kept : AllKeep true streams

@@ -54,7 +54,7 @@ pub(crate) fn start<'w>(
     ensures { (lives : List Life) → IfOk result (λ j. (returns : ℕ → ℕ → ℕ → List ℕ → Option ℕ) → HasLedTo w.now (stored_of orders.now returns) steps lives j.objects j.streams.items j.journal.items j.waves.items) }
 {
     w.known();
-    let streams = start_streams(alloc, w, steps)?;
+    let streams = start_streams(alloc, w, steps, true)?;
     let objects = Objects::place(alloc, w)?;
     Ok(Journey {
         objects,
@@ -142,6 +142,6 @@ pub(crate) fn picture_of<'w>(
     ensures shown { IfOk result (λ picture. (Z : Stored) (J : List Event) → OrdersStored w.now Z.orders → LeadTo w.now Z J (moment_of w.now streams.items objects.entry) → shown_units w.now (last_state w.now J) ≡ units_in_rows picture) }
     ensures words { IfOk result (λ picture. All (SaysWordsOf w.now) picture) }
 {
-    let (_, rest) = split_logs(alloc, streams)?;
+    let (_, rest) = split_logs(alloc, streams, false)?;
     picture(alloc, w, objects, rest)
 }

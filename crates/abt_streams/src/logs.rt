@@ -1,9 +1,10 @@
 //! What a wave appends to the journal.
 
-ghost use Rattle.std.specs.Prelude.{◌≡◌, ◌++◌, IfOk, List, OnOk, drop, length};
+ghost use Rattle.std.specs.Prelude.{◌≡◌, ◌++◌, IfOk, List, OnOk, drop, length, true};
 ghost use Rattle.abt_machine.specs.declared.events.Event.{Event};
 ghost use Rattle.abt_merge.specs.Logs.{AreLogs, log_of};
 ghost use Rattle.abt_simulation.specs.Journals.{MergesTo};
+ghost use Rattle.abt_drain.specs.Crews.{AllKeep};
 ghost use Rattle.abt_streams.specs.Cutting.{behind, log_lengths};
 
 use abt_machine::{Event, Log, Want};
@@ -17,9 +18,20 @@ pub(crate) fn log_lengths(alloc: Global, streams: &[Stream]) -> Result<Vec<usize
 {
     let mut lengths = Vec::with_capacity(alloc, streams.len())?;
     for stream in streams {
-        lengths.push(stream.log().len())?;
+        lengths.push(stream.written() as usize)?;
     }
     Ok(lengths)
+}
+
+// The log of a stream that keeps it.
+fn kept_log(stream: &Stream) -> &[Event]
+    requires { stream.now.keeps ≡ true }
+    ensures { result.now ≡ stream.now.log }
+{
+    match stream.kept() {
+        Some(log) => log,
+        None => unreachable!(),
+    }
 }
 
 // What a log has after its first `from` events.
@@ -32,12 +44,13 @@ fn log_behind(alloc: Global, log: &[Event], from: usize) -> Result<Log, Want>
 
 // What each log has after as many events as its length says.
 fn logs_behind(alloc: Global, streams: &[Stream], lengths: &[usize]) -> Result<Vec<Log>, Want>
-    requires { length lengths.now ≡ length streams.now }
+    requires lengths { length lengths.now ≡ length streams.now }
+    requires kept { AllKeep true streams.now }
     ensures { IfOk result (λ logs. logs.items ≡ behind streams.now lengths.now) }
 {
     let mut logs = Vec::with_capacity(alloc, streams.len())?;
     for s in 0..streams.len() {
-        logs.push(log_behind(alloc, streams[s].log(), lengths[s])?)?;
+        logs.push(log_behind(alloc, kept_log(&streams[s]), lengths[s])?)?;
     }
     Ok(logs)
 }
@@ -50,6 +63,7 @@ pub(crate) fn append_wave(
     lengths: &[usize],
 ) -> Result<(), Want>
     requires lengths { length lengths.now ≡ length streams.now }
+    requires kept { AllKeep true streams.now }
     requires logs { AreLogs (behind streams.now lengths.now) }
     ensures { OnOk result ((es : List Event) × MergesTo (log_of (behind streams.now lengths.now)) es × (journal.new.items ≡ journal.old.items ++ es)) }
 {

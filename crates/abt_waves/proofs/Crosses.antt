@@ -17,6 +17,7 @@ use Rattle.abt_unit.proofs.Crosses.{Unit-send}
 use Rattle.abt_chain.proofs.Crosses.{Chain-send}
 use Rattle.abt_order.specs.contracts.rounds.Scheduler as Scheduler
 use Rattle.abt_order.specs.contracts.stored.StoredOrder as StoredOrder
+use Rattle.abt_record.specs.contracts.record.Record as Record
 use Rattle.abt_stream.specs.contracts.parts.Frame as Frame
 use Rattle.abt_stream.specs.contracts.stream.Stream as Stream
 use Rattle.abt_waves.specs.contracts.locks.StoredOrders as StoredOrders
@@ -33,6 +34,9 @@ What-send = search (sendable, Code-send) depth 60 fits 20000
 Event-send : IsSend Event.the_row
 Event-send = search (sendable, What-send) depth 60 fits 20000
 
+Record-send : IsSend Record.the_row
+Record-send = search (sendable, crosses, Event-send) depth 60 fits 20000
+
 Scheduler-send : IsSend Scheduler.the_row
 Scheduler-send = search sendable depth 60 fits 20000
 
@@ -40,7 +44,7 @@ Frame-send : IsSend Frame.the_row
 Frame-send = search (sendable, Scheduler-send) depth 30
 
 Stream-send : IsSend Stream.the_row
-Stream-send = let box = Box-send Unit.the_row Unit-send in search (sendable, crosses, Event-send, Frame-send, Chain-send) depth 60 fits 20000
+Stream-send = let box = Box-send Unit.the_row Unit-send in search (sendable, crosses, Record-send, Frame-send, Chain-send) depth 60 fits 20000
 
 -- What goes to a thread, and what comes back.
 

@@ -1,6 +1,6 @@
 -- Fleets at the start, over a lock for each site, and at the end.
-use Rattle.std.proofs.Common.{◌≡◌, ℕ, ◌≤◌, inl, Bool, List, Some, Result, Ok, Err, refl, sym, subst, arith}
-use Rattle.std.specs.Prelude.{All, IfOk}
+use Rattle.std.proofs.Common.{◌≡◌, ℕ, ◌≤◌, inl, Bool, List, Some, refl, sym, subst, arith}
+use Rattle.std.specs.Prelude.{All}
 use Rattle.abt_machine.specs.declared.events.Event.{Event}
 use Rattle.abt_machine.specs.declared.events.Outcome.{Outcome}
 use Rattle.abt_machine.specs.declared.events.Site.{Site}
@@ -24,7 +24,10 @@ use Rattle.abt_report.specs.Pictures.{IsPictureOf, SaysWordsOf}
 use Rattle.abt_simulation.specs.Journals.{MergesTo}
 use Rattle.abt_stream.specs.declared.stream.StreamParts.{StreamParts}
 use Rattle.abt_stream.specs.Streams.{StreamValue}
-use Rattle.abt_drain.specs.Crews.{AreStarted, CrewValue, HaveLeft, IsCrew, logs_in, moment_of}
+use Rattle.abt_drain.specs.declared.run.Run.{Run}
+use Rattle.abt_drain.specs.declared.streams.Rests.{Rests}
+use Rattle.abt_drain.specs.Crews.{AllKeep, AreStarted, CrewValue, IsCrew, moment_of}
+use Rattle.abt_drain.specs.Ends.{AreLeft, HaveLeft, LeavesRotation, LeavesRun, logs_in}
 use Rattle.abt_drain.specs.Looks.{EndedWith}
 use Rattle.abt_drain.specs.Moments.{made_at}
 use Rattle.abt_drain.specs.Pictures.{ShowsUnits}
@@ -35,13 +38,14 @@ use Rattle.abt_drain.proofs.Journals.{come-lamport, has-come}
 use Rattle.abt_drain.proofs.Started.{are-streams, is-start}
 use Rattle.abt_drain.proofs.Starting.{start-come}
 use Rattle.abt_drain.proofs.Stopping.{looks-at}
+use Rattle.abt_waves.specs.Ends.{LeavesWaves}
 use Rattle.abt_waves.specs.Fleets.{IsFleet, IsFleetOver, MakesWave, MakesWaveOver, moment_over}
 use Rattle.abt_waves.specs.Locks.{TellsSites}
 use Rattle.abt_waves.specs.Waves.{HasEnded, IsFleetOf}
 
 -- the fleet as a value
-abbrev pub fleet_of : Parts → ℕ → ObjectsValue → List StreamValue → CrewValue
-fleet_of W n objects streams = record { workload = W; steps = n; objects = objects; streams = streams }
+abbrev pub fleet_of : Parts → ℕ → Bool → ObjectsValue → List StreamValue → CrewValue
+fleet_of W n keeps objects streams = record { workload = W; steps = n; keeps = keeps; objects = objects; streams = streams }
 
 -- A lock for each site.
 
@@ -97,11 +101,6 @@ pub own-wave : (W : Parts) (Z : Stored) (live : List Bool) (objects held : Objec
     MakesWaveOver own_lock clock_at W Z live (moment_over own_lock clock_at W streams objects) (moment_over own_lock clock_at W out held) → MakesWave W Z live (moment_of W streams objects) (moment_of W out held)
 own-wave W Z live objects held streams out made = record { wave = made.wave; times = made.times (λ x y e. e) }
 
--- two facts of an answer, together
-pub if-both : {X Y : Type 0} (r : Result X Y) (P Q F : X → Type 0) → ((x : X) → P x → Q x → F x) → IfOk r P → IfOk r Q → IfOk r F
-if-both (Ok x) P Q F f p q = f x p q
-if-both (Err y) P Q F f p q = tt
-
 -- what ran so with several streams is a run
 pub own-run : (W : Parts) (Z : Stored) (n : ℕ) (J : List Event) (o : Outcome) → 2 ≤ W.streams → IsRunOf W Z n J o → Lamport W J → HasRun W Z n J o
 own-run W Z n J o several is lamport = record {
@@ -118,15 +117,30 @@ own-run W Z n J o several is lamport = record {
   only = λ alone. absurd (let one : W.streams ≡ 1 = alone in omega arith);
 }
 
+-- what waves of several streams leave is what a run leaves
+pub own-leaves : (W : Parts) (Z : Stored) (n : ℕ) (keeps : Bool) (left : Run) → 2 ≤ W.streams → LeavesWaves own_lock W Z n keeps left → LeavesRun W Z n keeps left
+own-leaves W Z n keeps left several leaves = record {
+  events = leaves.events;
+  holds = own-run W Z n leaves.events left.outcome several leaves.holds.0 (leaves.holds.1 (λ x y e. e));
+  kept = leaves.kept;
+  pictured = leaves.pictured;
+  counted = leaves.counted;
+}
+
+-- and so is what a rotation leaves
+pub rotation-leaves : (W : Parts) (Z : Stored) (n : ℕ) (keeps : Bool) (left : Run) → LeavesRotation W Z n keeps left → LeavesRun W Z n keeps left
+rotation-leaves W Z n keeps left leaves = record { events = leaves.events; holds = leaves.holds.0; kept = leaves.kept; pictured = leaves.pictured; counted = leaves.counted }
+
 -- Any locks.
 
 module _ {Lock : Type 0} (lock : Site → Lock) (clock : ObjectsValue → Lock → ℕ) where
   -- the fleet at the start
-  pub fleet-starts : (W : Parts) (Z : Stored) (n : ℕ) (objects : ObjectsValue) (streams : List StreamValue) → IsValid W → OrdersStored W Z.orders → AreStarted W n W.streams streams → ArePlaced W objects →
-      ((l : Lock) → clock objects l ≡ 0) → IsFleetOf lock clock W Z n (fleet_of W n objects streams)
-  fleet-starts W Z n objects streams valid stored started placed begins = record {
+  pub fleet-starts : (W : Parts) (Z : Stored) (n : ℕ) (keeps : Bool) (objects : ObjectsValue) (streams : List StreamValue) → IsValid W → OrdersStored W Z.orders → AreStarted W n W.streams streams → AllKeep keeps streams → ArePlaced W objects →
+      ((l : Lock) → clock objects l ≡ 0) → IsFleetOf lock clock W Z n (fleet_of W n keeps objects streams)
+  fleet-starts W Z n keeps objects streams valid stored started kept placed begins = record {
     workload = refl;
     steps = refl;
+    kept = kept;
     fleet_is = record {
       valid = valid;
       stored = stored;
@@ -177,3 +191,14 @@ module _ {Lock : Type 0} (lock : Site → Lock) (clock : ObjectsValue → Lock �
       -- the picture is of where it ends
       pub fleet-picture : (rest : List StreamParts) (rows : List Row) → HaveLeft fleet.streams rest → ShowsUnits W rest fleet.objects rows → All (SaysWordsOf W) rows → IsPictureOf W J rows
       fleet-picture = come-picture W Z is.fleet_is.valid is.fleet_is.stored n fleet.streams fleet.objects is.fleet_is.streams_are is.fleet_is.come J merged
+
+  -- what a run that ended so leaves
+  pub fleet-leaves : (W : Parts) (Z : Stored) (n : ℕ) (fleet : CrewValue) (o : Outcome) → HasEnded lock clock W Z n fleet o → (rests : Rests) → AreLeft fleet.keeps fleet.streams rests →
+      (rows : List Row) → ShowsUnits W rests.parts.items fleet.objects rows → All (SaysWordsOf W) rows → LeavesWaves lock W Z n fleet.keeps (record { journal = rests.journal; steps = rests.steps; picture = rows; outcome = o })
+  fleet-leaves W Z n fleet o ended rests left rows shows words = record {
+    events = left.events;
+    holds = (fleet-ran W Z n fleet ended.fleet_is left.events left.merges o ended.looks, fleet-lamport W Z n fleet ended.fleet_is left.events left.merges);
+    kept = left.kept;
+    pictured = fleet-picture W Z n fleet ended.fleet_is left.events left.merges rests.parts.items rows left.have shows words;
+    counted = left.steps;
+  }

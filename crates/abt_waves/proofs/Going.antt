@@ -54,8 +54,8 @@ module _ {Lock Pass : Type 0} (locks : LocksValue Lock Pass) (lock : Site → Lo
     numbered = own ∙ ap (λ (k : StreamNo). k.0) gone.number
 
     -- one deed more
-    made-gone : (w : What) → Made Heeded W Z old before w new after → new.number ≡ old.number → new.budget ≡ old.budget → HasGone locks lock W Z first new after
-    made-gone w made number budget =
+    made-gone : (w : What) → Made Heeded W Z old before w new after → new.number ≡ old.number → new.budget ≡ old.budget → new.keeps ≡ old.keeps → HasGone locks lock W Z first new after
+    made-gone w made number budget keeps =
         let d : StreamDeed = doing first.number.0 new.clock w made.heard in
         record {
           deeds = gone.deeds ++ d ∷ [];
@@ -68,6 +68,7 @@ module _ {Lock Pass : Type 0} (locks : LocksValue Lock Pass) (lock : Site → Lo
           clock = sym (last-append (λ (e : StreamDeed). e.stamp) first.clock gone.deeds (d ∷ []));
           number = number ∙ gone.number;
           budget = budget ∙ gone.budget;
+          keeps = keeps ∙ gone.keeps;
         }
 
     -- none
@@ -85,15 +86,16 @@ module _ {Lock Pass : Type 0} (locks : LocksValue Lock Pass) (lock : Site → Lo
         clock = gone.clock;
         number = gone.number;
         budget = gone.budget;
+        keeps = gone.keeps;
       })
     ]
 
-    pub turned-gone : (t : Turn) → Turned Heeded W Z old before t new after → new.number ≡ old.number → new.budget ≡ old.budget → HasGone locks lock W Z first new after
-    turned-gone turn.Stepped h number budget = made-gone h.0 h.1 number budget
-    turned-gone turn.EmptyRound h number budget = made-gone (what.Miss h.0) h.1 number budget
-    turned-gone turn.Moved h number budget = made-gone h.0 h.1 number budget
-    turned-gone turn.Spent h number budget = same-gone h.1 h.2
-    turned-gone turn.Worn h number budget = met-gone h.0 h.1
+    pub turned-gone : (t : Turn) → Turned Heeded W Z old before t new after → new.number ≡ old.number → new.budget ≡ old.budget → new.keeps ≡ old.keeps → HasGone locks lock W Z first new after
+    turned-gone turn.Stepped h number budget keeps = made-gone h.0 h.1 number budget keeps
+    turned-gone turn.EmptyRound h number budget keeps = made-gone (what.Miss h.0) h.1 number budget keeps
+    turned-gone turn.Moved h number budget keeps = made-gone h.0 h.1 number budget keeps
+    turned-gone turn.Spent h number budget keeps = same-gone h.1 h.2
+    turned-gone turn.Worn h number budget keeps = met-gone h.0 h.1
 
   module _ (old : StreamValue) (before : Pass) (new : StreamValue) (after : Pass) where
     -- a turn that met a worn clock
@@ -126,7 +128,7 @@ module _ {Lock Pass : Type 0} (locks : LocksValue Lock Pass) (lock : Site → Lo
   pub prepared-gone : (first old ready : StreamValue) (pass : Pass) → IsPrepared old ready → HasGone locks lock W Z first old pass → HasGone locks lock W Z first ready pass
   prepared-gone first old ready pass is g = subst (λ s. HasGone locks lock W Z first s pass) (sym is) (same ready.top.scheduler ready.order ready.rooms) where
     same : (scheduler : SchedulerValue) (order : List PoolNo) (rooms : Rooms) → HasGone locks lock W Z first (prepared old scheduler order rooms) pass
-    same scheduler order rooms = record { deeds = g.deeds; gone = g.gone; log = g.log; clock = g.clock; number = g.number; budget = g.budget }
+    same scheduler order rooms = record { deeds = g.deeds; gone = g.gone; log = g.log; clock = g.clock; number = g.number; budget = g.budget; keeps = g.keeps }
 
   -- when the wave begins a stream has done nothing, and its pass has seen nothing
   pub none-gone : (stream : StreamValue) (pass : Pass) → HasSeenNothing locks pass → HasGone locks lock W Z stream stream pass
@@ -139,4 +141,5 @@ module _ {Lock Pass : Type 0} (locks : LocksValue Lock Pass) (lock : Site → Lo
     clock = refl;
     number = refl;
     budget = refl;
+    keeps = refl;
   }

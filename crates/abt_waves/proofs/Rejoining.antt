@@ -28,7 +28,7 @@ use Rattle.abt_commons.specs.Held.{ObjectsValue}
 use Rattle.abt_commons.specs.Sights.{SiteCall}
 use Rattle.abt_laws.proofs.Options.{some-injective}
 use Rattle.abt_stream.specs.Streams.{FitsShapes, StreamValue}
-use Rattle.abt_drain.specs.Crews.{stream_clock, log_from, moment_of}
+use Rattle.abt_drain.specs.Crews.{AllKeep, stream_clock, log_from, moment_of}
 use Rattle.abt_drain.specs.Looks.{AreStreams, IsStreamOf, held_from}
 use Rattle.abt_drain.specs.Moments.{HasCome, Moment, made_at}
 use Rattle.abt_drain.proofs.Coming.{come-clock-low, come-stream-unworn}
@@ -215,6 +215,12 @@ module _ {Lock Pass : Type 0} (IsOf : Pass → Type 0) (locks : LocksValue Lock 
             budget = (came s b.0 b.1).gone.budget ∙ (is.streams_are.own s b.0 b.1).budget;
           }));
     }
+
+    -- they keep their events in memory as before
+    pub keep-after : (k : Bool) → AllKeep k streams → AllKeep k (map stream_in returned)
+    keep-after k kept s stream at = (
+        let b = back-at s stream at (slice_get streams s) refl in
+        ap (λ (r : StreamValue). r.keeps) (sym b.2) ∙ ((came s b.0 b.1).gone.keeps ∙ kept s b.0 b.1))
 
     -- the streams and objects that it leaves are a fleet again
     pub rejoined : IsFleetOver lock clock W Z n held (map stream_in returned)

@@ -10,6 +10,7 @@ use Rattle.abt_interleave.specs.Weaving.{TellsLocks}
 use Rattle.abt_commons.specs.AllPasses.{AreAll}
 use Rattle.abt_commons.specs.Held.{ObjectsValue}
 use Rattle.abt_stream.specs.Streams.{StreamValue}
+use Rattle.abt_drain.specs.Crews.{AllKeep}
 use Rattle.abt_waves.specs.declared.voyages.Returned.{Returned}
 use Rattle.abt_waves.specs.declared.voyages.Stop.{Stop}
 use Rattle.abt_waves.specs.declared.voyages.Stop.TheVariants as stop
@@ -18,7 +19,7 @@ use Rattle.abt_waves.specs.Jobs.{HasReturned, JobValue, MayGo, jobs_of}
 use Rattle.abt_waves.specs.Locks.{AreClosed, HasSeenNothing, LocksValue}
 use Rattle.abt_waves.specs.Waves.{pass_in, stop_in, stream_in}
 use Rattle.abt_waves.proofs.Departing.{came, may-go, passes-back, passes-many, returned-many, stops-well}
-use Rattle.abt_waves.proofs.Rejoining.{Came, makes-wave, rejoined, stays}
+use Rattle.abt_waves.proofs.Rejoining.{Came, keep-after, makes-wave, rejoined, stays}
 
 module _ {Locks Lock Pass : Type 0} (IsOf : Locks → Pass → Type 0) (value : Locks → LocksValue Lock Pass) (lock : Site → Lock) (clock : ObjectsValue → Lock → ℕ) (tells : TellsLocks Lock)
     (W : Parts) (Z : Stored) (n : ℕ) (objects : ObjectsValue) (streams : List StreamValue) (is : IsFleetOver lock clock W Z n objects streams)
@@ -104,3 +105,6 @@ module _ {Locks Lock Pass : Type 0} (IsOf : Locks → Pass → Type 0) (value : 
 
               pub others-stay : (s : ℕ) → slice_get flags s ≡ Some false → slice_get out s ≡ slice_get streams s
               others-stay s dead = ap (λ ss. slice_get ss s) out_are ∙ stays (IsOf own) locks lock clock tells same-clocks Z n streams flags opened count-own returned back-many all-came held left-own s dead
+
+              pub keep-on : (k : Bool) → AllKeep k streams → AllKeep k out
+              keep-on k kept = subst (AllKeep k) (sym out_are) (keep-after (IsOf own) locks lock clock tells same-clocks Z n streams flags opened count-own returned back-many all-came held left-own k kept)

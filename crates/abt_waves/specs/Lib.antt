@@ -1,3 +1,4 @@
+pub mod Ends
 pub mod Fleets
 pub mod Jobs
 pub mod Locks

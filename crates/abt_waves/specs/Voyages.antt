@@ -29,6 +29,7 @@ module _ {Lock Pass : Type 0} (locks : LocksValue Lock Pass) (lock : Site → Lo
     pub clock : stream.clock ≡ last_from first.clock (deed_stamps deeds)
     pub number : stream.number ≡ first.number
     pub budget : stream.budget ≡ first.budget
+    pub keeps : stream.keeps ≡ first.keeps
 
   -- a clock is at its end: the stream's own, or that of a site's lock that it sees
   abbrev pub IsWorn : StreamValue → Pass → Type 0

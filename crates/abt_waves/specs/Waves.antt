@@ -7,7 +7,7 @@ use Rattle.abt_machine.specs.declared.workload.Parts.{Parts}
 use Rattle.abt_commons.specs.Held.{ObjectsValue}
 use Rattle.abt_outcomes.specs.Values.{LooksAs}
 use Rattle.abt_stream.specs.Streams.{StreamValue}
-use Rattle.abt_drain.specs.Crews.{CrewValue, moment_of}
+use Rattle.abt_drain.specs.Crews.{AllKeep, CrewValue, moment_of}
 use Rattle.abt_drain.specs.Moments.{made_at}
 use Rattle.abt_waves.specs.declared.voyages.Returned.{Returned}
 use Rattle.abt_waves.specs.declared.voyages.Stop.{Stop}
@@ -33,6 +33,7 @@ module _ {Pass : Type 0} where
 pub record IsFleetOf {Lock : Type 0} (lock : Site → Lock) (clock : ObjectsValue → Lock → ℕ) (W : Parts) (Z : Stored) (n : ℕ) (fleet : CrewValue) : Type 0 where
   pub workload : fleet.workload ≡ W
   pub steps : fleet.steps ≡ n
+  pub kept : AllKeep fleet.keeps fleet.streams
   pub fleet_is : IsFleetOver lock clock W Z n fleet.objects fleet.streams
 
 -- the last wave ended the run so

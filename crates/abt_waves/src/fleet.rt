@@ -3,11 +3,8 @@
 ghost use Rattle.std.specs.Prelude.{◌≡◌, ◌≤◌, ℕ, IfOk, List, Option, length};
 ghost use Rattle.abt_machine.specs.declared.events.Outcome.{Outcome};
 ghost use Rattle.abt_machine.specs.Stored.{CallsStored, Stored};
-ghost use Rattle.abt_machine.specs.Stamps.{Lamport};
-ghost use Rattle.abt_report.specs.Pictures.{IsPictureOf};
 ghost use Rattle.abt_drain.specs.Looks.{AreStreams, EndedWith};
-ghost use Rattle.abt_drain.specs.Runs.{IsRunOf};
-ghost use Rattle.abt_waves.specs.Locks.{TellsSites};
+ghost use Rattle.abt_waves.specs.Ends.{LeavesWaves};
 ghost use Rattle.abt_waves.specs.Storing.{stored_by};
 ghost use Rattle.abt_waves.specs.Waves.{HasEnded, IsFleetOf};
 
@@ -15,10 +12,8 @@ use crate::locks::{Locked, Locking, Orders};
 use crate::watch::Starts;
 use crate::wave::sail;
 use abt_commons::Objects;
-use abt_drain::{outcome, picture, split_logs, start_streams};
-use abt_machine::{Journal, Outcome, Want, Workload};
-use abt_merge::merge;
-use abt_report::Picture;
+use abt_drain::{Rests, Run, leave, outcome, picture, start_streams};
+use abt_machine::{Outcome, Want, Workload};
 use abt_stream::Stream;
 use abt_work::Work;
 use std::alloc::Global;
@@ -31,6 +26,7 @@ use std::thread::Threads;
 pub(crate) struct Fleet<'w> {
     w: &'w Workload,
     steps: u64,
+    keeps: bool,
     objects: Objects<'w>,
     streams: Vec<Stream>,
 }
@@ -40,7 +36,7 @@ impl<'w> Model for Fleet<'w> {
 
     ghost Value = { CrewValue };
 
-    ghost view = { λ f. record { workload = f.w.now; steps = f.steps; objects = f.objects; streams = f.streams.items } };
+    ghost view = { λ f. record { workload = f.w.now; steps = f.steps; keeps = f.keeps; objects = f.objects; streams = f.streams.items } };
 }
 
 impl<'w> Fleet<'w> {
@@ -50,17 +46,20 @@ impl<'w> Fleet<'w> {
         w: &'w Workload,
         orders: &O,
         steps: u64,
+        keeps: bool,
     ) -> Result<Fleet<'w>, Want>
         requires orders { 2 ≤ length (O.shapes orders.now) }
         ensures workload { IfOk result (λ fleet. fleet.workload ≡ w.now) }
+        ensures keeps { IfOk result (λ fleet. fleet.keeps ≡ keeps) }
         ensures fleet { IfOk result (λ fleet. (returns : ℕ → ℕ → ℕ → List ℕ → Option ℕ) → IsFleetOf L.lock L.clock w.now (stored_by (O.shapes orders.now) returns) steps fleet) }
     {
         w.known();
-        let streams = start_streams(alloc, w, steps)?;
+        let streams = start_streams(alloc, w, steps, keeps)?;
         let objects = Objects::place(alloc, w)?;
         Ok(Fleet {
             w,
             steps,
+            keeps,
             objects,
             streams,
         })
@@ -86,10 +85,12 @@ impl<'w> Fleet<'w> {
         requires fleet { IsFleetOf L.lock L.clock self.workload (stored_by (O.shapes orders.now) (P.returns work.now)) self.steps self }
         requires flags { length live.now ≡ self.workload.streams }
         ensures fleet { IfOk result (IsFleetOf L.lock L.clock self.entry.workload (stored_by (O.shapes orders.now) (P.returns work.now)) self.entry.steps) }
+        ensures keeps { IfOk result (λ fleet. fleet.keeps ≡ self.entry.keeps) }
     {
         let Fleet {
             w,
             steps,
+            keeps,
             objects,
             streams,
         } = self;
@@ -99,6 +100,7 @@ impl<'w> Fleet<'w> {
         Ok(Fleet {
             w,
             steps,
+            keeps,
             objects,
             streams,
         })
@@ -123,7 +125,8 @@ impl<'w> Fleet<'w> {
     >(self, rt: &'w R, alloc: Global, orders: &O, work: &P) -> Result<(Fleet<'w>, Outcome), Want>
         requires calls { CallsStored self.workload (P.count work.now) }
         requires fleet { IsFleetOf L.lock L.clock self.workload (stored_by (O.shapes orders.now) (P.returns work.now)) self.steps self }
-        ensures { IfOk result (λ ended. HasEnded L.lock L.clock self.entry.workload (stored_by (O.shapes orders.now) (P.returns work.now)) self.entry.steps ended.0 ended.1) }
+        ensures ended { IfOk result (λ ended. HasEnded L.lock L.clock self.entry.workload (stored_by (O.shapes orders.now) (P.returns work.now)) self.entry.steps ended.0 ended.1) }
+        ensures keeps { IfOk result (λ ended. ended.0.keeps ≡ self.entry.keeps) }
     {
         let live = vec![in alloc; true; self.w.streams() as usize]?;
         let starts = Starts::new();
@@ -138,22 +141,33 @@ impl<'w> Fleet<'w> {
         unreachable!()
     }
 
-    /// The journal of all events, and where each unit is.
-    pub(crate) fn end<R, L: Locking<'w, R>>(self, alloc: Global) -> Result<(Journal, Picture), Want>
-        requires fleet { (Z : Stored) × IsFleetOf L.lock L.clock self.workload Z self.steps self }
-        ensures run { IfOk result (λ ended. (Z : Stored) (o : Outcome) → HasEnded L.lock L.clock self.entry.workload Z self.entry.steps self.entry o → IsRunOf self.entry.workload Z self.entry.steps ended.0 o) }
-        ensures lamport { IfOk result (λ ended. TellsSites L.lock → Lamport self.entry.workload ended.0) }
-        ensures picture { IfOk result (λ ended. IsPictureOf self.entry.workload ended.0 ended.1) }
+    /// What the run leaves, which ended so.
+    pub(crate) fn end<R, L: Locking<'w, R>>(
+        self,
+        alloc: Global,
+        outcome: Outcome,
+    ) -> Result<Run, Want>
+        requires ended { (Z : Stored) × HasEnded L.lock L.clock self.workload Z self.steps self outcome }
+        ensures { IfOk result (λ run. (Z : Stored) → HasEnded L.lock L.clock self.entry.workload Z self.entry.steps self.entry outcome → LeavesWaves L.lock self.entry.workload Z self.entry.steps self.entry.keeps run) }
     {
         let Fleet {
             w,
             steps: _,
+            keeps,
             objects,
             streams,
         } = self;
-        let (logs, rest) = split_logs(alloc, streams)?;
-        let journal = merge(alloc, logs)?;
-        let picture = picture(alloc, w, objects, rest)?;
-        Ok((journal, picture))
+        let Rests {
+            journal,
+            steps,
+            parts,
+        } = leave(alloc, streams, keeps)?;
+        let picture = picture(alloc, w, objects, parts)?;
+        Ok(Run {
+            journal,
+            steps,
+            picture,
+            outcome,
+        })
     }
 }

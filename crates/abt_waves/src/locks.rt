@@ -64,6 +64,7 @@ pub trait Locked {
         ensures turned { (Z : Stored) → FitsShapes w.now Z stream.old → Z.returns ≡ P.returns work.now → Turned (Heeds (Moves (locks self.now) lock) (locks self.now).objects.workload) w.now Z stream.old pass.old result stream.new pass.new }
         ensures stream { stream.new.number ≡ stream.old.number }
         ensures budget { stream.new.budget ≡ stream.old.budget }
+        ensures keeps { stream.new.keeps ≡ stream.old.keeps }
         ensures fits { FitsStream w.now stream.new }
         ensures shapes { (Z : Stored) → FitsShapes w.now Z stream.old → FitsShapes w.now Z stream.new }
         ensures pass { is_of self.now pass.new }

@@ -1,12 +1,10 @@
 //! A run on threads.
 
 ghost use Rattle.std.specs.Prelude.{◌≤◌, IfOk, length};
-ghost use Rattle.abt_machine.specs.Stamps.{Lamport};
 ghost use Rattle.abt_machine.specs.Stored.{CallsStored};
 ghost use Rattle.abt_order.specs.Stored.{stored_of};
-ghost use Rattle.abt_report.specs.Pictures.{IsPictureOf};
-ghost use Rattle.abt_drain.specs.Runs.{HasRun, IsRunOf};
-ghost use Rattle.abt_waves.specs.Locks.{TellsSites};
+ghost use Rattle.abt_drain.specs.Ends.{LeavesRun};
+ghost use Rattle.abt_waves.specs.Ends.{LeavesWaves};
 ghost use Rattle.abt_waves.specs.Storing.{stored_by};
 
 use crate::fleet::Fleet;
@@ -24,7 +22,8 @@ use std::thread::Threads;
 /// before each step. In a wave each stream makes
 /// turns on a thread of its own, over objects that have a lock each, until it is spent, or finds nothing while no other stream
 /// has work, or finds nothing too often in a row. Waves go on until one leaves nothing to do or a stream spent. If no thread can be
-/// started the caller's does its work. A workload with one stream runs on the caller's thread, without a lock.
+/// started the caller's does its work. A workload with one stream runs on the caller's thread, without a lock. The run keeps its
+/// journal if `keeps`.
 ///
 /// # Errors
 ///
@@ -36,14 +35,14 @@ pub fn run_streams<'w, R: Threads + Wait + Sync, P: Work + Sync>(
     orders: &[StoredOrder],
     work: &P,
     steps: u64,
+    keeps: bool,
 ) -> Result<Run, Want>
     requires orders { 2 ≤ length orders.now }
     requires calls { CallsStored w.now (P.count work.now) }
-    ensures run { IfOk result (λ run. HasRun w.now (stored_of orders.now (P.returns work.now)) steps run.journal run.outcome) }
-    ensures picture { IfOk result (λ run. IsPictureOf w.now run.journal run.picture) }
+    ensures run { IfOk result (LeavesRun w.now (stored_of orders.now (P.returns work.now)) steps keeps) }
 {
     if w.streams() == 1 {
-        return drain_with(alloc, w, orders, work, steps);
+        return drain_with(alloc, w, orders, work, steps, keeps);
     }
     run_over::<R, P, StoredOrders<'_>, SplitPass<'w>, Split<'w, R>>(
         rt,
@@ -52,6 +51,7 @@ pub fn run_streams<'w, R: Threads + Wait + Sync, P: Work + Sync>(
         &StoredOrders { orders },
         work,
         steps,
+        keeps,
     )
 }
 
@@ -63,19 +63,20 @@ pub fn run_over<
     O: Orders + Sync,
     X: Send + Drop,
     L: Locking<'w, R> + Locked<Pass = X> + Sync + Drop,
->(rt: &'w R, alloc: Global, w: &'w Workload, orders: &O, work: &P, steps: u64) -> Result<Run, Want>
+>(
+    rt: &'w R,
+    alloc: Global,
+    w: &'w Workload,
+    orders: &O,
+    work: &P,
+    steps: u64,
+    keeps: bool,
+) -> Result<Run, Want>
     requires orders { 2 ≤ length (O.shapes orders.now) }
     requires calls { CallsStored w.now (P.count work.now) }
-    ensures run { IfOk result (λ run. IsRunOf w.now (stored_by (O.shapes orders.now) (P.returns work.now)) steps run.journal run.outcome) }
-    ensures lamport { IfOk result (λ run. TellsSites L.lock → Lamport w.now run.journal) }
-    ensures picture { IfOk result (λ run. IsPictureOf w.now run.journal run.picture) }
+    ensures run { IfOk result (LeavesWaves L.lock w.now (stored_by (O.shapes orders.now) (P.returns work.now)) steps keeps) }
 {
-    let fleet = Fleet::new::<R, O, L>(alloc, w, orders, steps)?;
+    let fleet = Fleet::new::<R, O, L>(alloc, w, orders, steps, keeps)?;
     let (fleet, outcome) = fleet.run::<R, P, O, X, L>(rt, alloc, orders, work)?;
-    let (journal, picture) = fleet.end::<R, L>(alloc)?;
-    Ok(Run {
-        journal,
-        picture,
-        outcome,
-    })
+    fleet.end::<R, L>(alloc, outcome)
 }

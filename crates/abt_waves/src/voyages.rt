@@ -180,7 +180,7 @@ fn advance<P: Work, O: Orders, C: Locked>(
     w.known();
     orders.prepare(stream, w)?;
     let turn = locks.turn(stream, pass, w, work);
-    // The log is of no use here, but its contract says that it has no more steps than the stream may make.
-    stream.log();
+    // The number of steps is of no use here, but its contract says that it is no more than the stream may make.
+    stream.steps();
     Ok(turn)
 }

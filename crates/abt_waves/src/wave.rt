@@ -1,10 +1,10 @@
 //! One wave of streams.
 
-ghost use Rattle.std.specs.Prelude.{ℕ, ◌≡◌, ◌≢◌, IfOk, Some, false, length, slice_get};
+ghost use Rattle.std.specs.Prelude.{ℕ, ◌≡◌, ◌≢◌, Bool, IfOk, Some, false, length, slice_get};
 ghost use Rattle.std.specs.List.{All};
 ghost use Rattle.abt_machine.specs.Stored.{CallsStored};
 ghost use Rattle.abt_order.specs.Stored.{stored_of};
-ghost use Rattle.abt_drain.specs.Crews.{moment_of};
+ghost use Rattle.abt_drain.specs.Crews.{AllKeep, moment_of};
 ghost use Rattle.abt_waves.specs.declared.voyages.Stop.TheVariants as why;
 ghost use Rattle.abt_waves.specs.Fleets.{IsFleet, IsFleetOver, MakesWave, MakesWaveOver, moment_over};
 ghost use Rattle.abt_waves.specs.Storing.{stored_by};
@@ -42,6 +42,7 @@ pub fn run_wave<'w, R: Threads + Wait + Sync, P: Work + Sync>(
     ensures fleet { IfOk result (λ left. (n : ℕ) → IsFleet w.now (stored_of orders.now (P.returns work.now)) n objects.entry streams.items → IsFleet w.now (stored_of orders.now (P.returns work.now)) n left.0 left.1.items) }
     ensures wave { IfOk result (λ left. MakesWave w.now (stored_of orders.now (P.returns work.now)) live.now (moment_of w.now streams.items objects.entry) (moment_of w.now left.1.items left.0)) }
     ensures still { IfOk result (λ left. (s : ℕ) → slice_get live.now s ≡ Some false → slice_get left.1.items s ≡ slice_get streams.items s) }
+    ensures keeps { IfOk result (λ left. (k : Bool) → AllKeep k streams.items → AllKeep k left.1.items) }
 {
     sail::<R, P, StoredOrders<'_>, SplitPass<'w>, Split<'w, R>>(
         rt,
@@ -81,6 +82,7 @@ pub(crate) fn sail<
     ensures fleet { IfOk result (λ left. (n : ℕ) → IsFleetOver L.lock L.clock w.now (stored_by (O.shapes orders.now) (P.returns work.now)) n objects.entry streams.items → IsFleetOver L.lock L.clock w.now (stored_by (O.shapes orders.now) (P.returns work.now)) n left.0 left.1.items) }
     ensures wave { IfOk result (λ left. MakesWaveOver L.lock L.clock w.now (stored_by (O.shapes orders.now) (P.returns work.now)) live.now (moment_over L.lock L.clock w.now streams.items objects.entry) (moment_over L.lock L.clock w.now left.1.items left.0)) }
     ensures still { IfOk result (λ left. (s : ℕ) → slice_get live.now s ≡ Some false → slice_get left.1.items s ≡ slice_get streams.items s) }
+    ensures keeps { IfOk result (λ left. (k : Bool) → AllKeep k streams.items → AllKeep k left.1.items) }
 {
     let count = w.streams();
     let Ok((locks, passes)) = L::make(rt, alloc, objects, count) else {

@@ -1,3 +1,4 @@
 pub mod Crosses
 pub mod HallClocks
 pub mod HallClosed
+pub mod HallEnds

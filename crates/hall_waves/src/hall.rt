@@ -9,7 +9,7 @@ ghost use Rattle.abt_commons.specs.Halls.{the_lock};
 ghost use Rattle.abt_order.specs.Stored.{stored_of};
 ghost use Rattle.abt_waves.specs.Locks.{AreClosed};
 ghost use Rattle.hall_waves.specs.HallLocks.{clock_of_hall, locks_of_hall};
-ghost use Rattle.abt_report.specs.Pictures.{IsPictureOf};
+ghost use Rattle.abt_drain.specs.Ends.{IsLeftOf};
 ghost use Rattle.abt_drain.specs.Runs.{IsRunOf};
 
 use abt_commons::{Commons, Hall, HallPass, Objects};
@@ -101,11 +101,11 @@ pub fn run_in_hall<'w, R: Threads + Wait + Sync, P: Work + Sync>(
     orders: &[StoredOrder],
     work: &P,
     steps: u64,
+    keeps: bool,
 ) -> Result<Run, Want>
     requires orders { 2 ≤ length orders.now }
     requires calls { CallsStored w.now (P.count work.now) }
-    ensures run { IfOk result (λ run. IsRunOf w.now (stored_of orders.now (P.returns work.now)) steps run.journal run.outcome) }
-    ensures picture { IfOk result (λ run. IsPictureOf w.now run.journal run.picture) }
+    ensures run { IfOk result (λ run. IsLeftOf w.now keeps (λ J. IsRunOf w.now (stored_of orders.now (P.returns work.now)) steps J run.outcome) run) }
 {
     run_over::<R, P, StoredOrders<'_>, HallPass<'w>, OneLock<'w, R>>(
         rt,
@@ -114,5 +114,6 @@ pub fn run_in_hall<'w, R: Threads + Wait + Sync, P: Work + Sync>(
         &StoredOrders { orders },
         work,
         steps,
+        keeps,
     )
 }

@@ -12,6 +12,6 @@ returns g c = λ lives. λ returns.
     let W = c.args.w.now in
     let Z = stored_of c.args.orders.now returns in
     let stored = orders-stored W Z c.known.ensures (subst (λ k. 2 ≤ k) (sym (length-map c.args.orders.now _)) c.requires.orders) in
-    let under = under-way-at-start W Z c.args.steps lives c.in_ok-objects.objects c.in_ok-streams.streams.items c.known.ensures stored c.in_ok-streams.ensures c.in_ok-objects.ensures in
+    let under = under-way-at-start W Z c.args.steps lives c.in_ok-objects.objects c.in_ok-streams.streams.items c.known.ensures stored c.in_ok-streams.ensures.streams c.in_ok-streams.ensures.keeps c.in_ok-objects.ensures in
     subst (λ J. HasLedTo W Z c.args.steps lives c.in_ok-objects.objects c.in_ok-streams.streams.items J c.new-2.result.items) (sym c.new.ensures.items)
     (subst (λ waves. HasLedTo W Z c.args.steps lives c.in_ok-objects.objects c.in_ok-streams.streams.items _ waves) (sym c.new-2.ensures.items) under)

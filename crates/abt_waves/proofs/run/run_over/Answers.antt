@@ -1,8 +1,9 @@
 -- The run of all waves.
 use denote.Param.Send.{sendable}
-use Rattle.std.proofs.Common.{refl}
+use Rattle.std.proofs.Common.{◌≡◌, ◌∙◌, refl, subst}
 use Rattle.abt_machine.specs.Stored.{CallsStored}
-use Rattle.abt_drain.specs.Runs.{IsRunOf}
+use Rattle.std.proofs.lemmas.Result.{IfOk-weaker}
+use Rattle.abt_waves.specs.Ends.{LeavesWaves}
 use Rattle.abt_waves.specs.Waves.{HasEnded, IsFleetOf}
 use Rattle.abt_waves.proofs.Fleets.{fleet-own, own-fleet}
 use Rattle.abt_waves.specs.Storing.{stored_by}
@@ -14,12 +15,23 @@ run-requires g c κs =
     let fleet = c.in_ok-fleet.ensures.fleet (g.P.Work.returns c.args.work.now) in
     (search sendable depth 20, (search sendable depth 20, (search sendable depth 20, (search sendable depth 20, (search sendable depth 20, ((refl, tt), (fleet-own g.L.Locked.lock g.L.Locked.clock (λ V k. CallsStored V (g.P.Work.count c.args.work.now)) c.args.w.now Z c.args.steps c.in_ok-fleet.fleet fleet c.requires.calls, fleet-own g.L.Locked.lock g.L.Locked.clock (λ V k. IsFleetOf g.L.Locked.lock g.L.Locked.clock V Z k c.in_ok-fleet.fleet) c.args.w.now Z c.args.steps c.in_ok-fleet.fleet fleet fleet)))))))
 
-pub returns-clause-run : goal.returns-clause-run
-returns-clause-run g c =
+pub end-requires : goal.end-requires
+end-requires g c κs =
     let Z = stored_by (g.O.Orders.shapes c.args.orders.now) (g.P.Work.returns c.args.work.now) in
     let fleet = c.in_ok-fleet.ensures.fleet (g.P.Work.returns c.args.work.now) in
     let ended : HasEnded g.L.Locked.lock g.L.Locked.clock c.args.w.now Z c.args.steps c.in_ok-fleet-2.fleet c.in_ok-fleet-2.outcome =
-    own-fleet g.L.Locked.lock g.L.Locked.clock (λ V k. HasEnded g.L.Locked.lock g.L.Locked.clock V Z k c.in_ok-fleet-2.fleet c.in_ok-fleet-2.outcome) c.args.w.now Z c.args.steps c.in_ok-fleet.fleet fleet c.in_ok-fleet-2.ensures in
-    own-fleet g.L.Locked.lock g.L.Locked.clock (λ V k. IsRunOf V Z k c.in_ok-journal.journal c.in_ok-fleet-2.outcome) c.args.w.now Z c.args.steps c.in_ok-fleet-2.fleet ended.fleet_is
-    (c.in_ok-journal.ensures.run Z c.in_ok-fleet-2.outcome
-    (fleet-own g.L.Locked.lock g.L.Locked.clock (λ V k. HasEnded g.L.Locked.lock g.L.Locked.clock V Z k c.in_ok-fleet-2.fleet c.in_ok-fleet-2.outcome) c.args.w.now Z c.args.steps c.in_ok-fleet-2.fleet ended.fleet_is ended))
+    own-fleet g.L.Locked.lock g.L.Locked.clock (λ V k. HasEnded g.L.Locked.lock g.L.Locked.clock V Z k c.in_ok-fleet-2.fleet c.in_ok-fleet-2.outcome) c.args.w.now Z c.args.steps c.in_ok-fleet.fleet fleet c.in_ok-fleet-2.ensures.ended in
+    ((refl, tt), (Z, fleet-own g.L.Locked.lock g.L.Locked.clock (λ V k. HasEnded g.L.Locked.lock g.L.Locked.clock V Z k c.in_ok-fleet-2.fleet c.in_ok-fleet-2.outcome) c.args.w.now Z c.args.steps c.in_ok-fleet-2.fleet ended.fleet_is ended))
+
+pub returns : goal.returns
+returns g c =
+    let Z = stored_by (g.O.Orders.shapes c.args.orders.now) (g.P.Work.returns c.args.work.now) in
+    let fleet = c.in_ok-fleet.ensures.fleet (g.P.Work.returns c.args.work.now) in
+    let ended : HasEnded g.L.Locked.lock g.L.Locked.clock c.args.w.now Z c.args.steps c.in_ok-fleet-2.fleet c.in_ok-fleet-2.outcome =
+    own-fleet g.L.Locked.lock g.L.Locked.clock (λ V k. HasEnded g.L.Locked.lock g.L.Locked.clock V Z k c.in_ok-fleet-2.fleet c.in_ok-fleet-2.outcome) c.args.w.now Z c.args.steps c.in_ok-fleet.fleet fleet c.in_ok-fleet-2.ensures.ended in
+    let keeps : c.in_ok-fleet-2.fleet.keeps ≡ c.args.keeps = c.in_ok-fleet-2.ensures.keeps ∙ c.in_ok-fleet.ensures.keeps in
+    record {
+      run = IfOk-weaker c.end.result _ _ (λ run leaves. subst (λ k. LeavesWaves g.L.Locked.lock c.args.w.now Z c.args.steps k run) keeps (
+          own-fleet g.L.Locked.lock g.L.Locked.clock (λ V k. LeavesWaves g.L.Locked.lock V Z k c.in_ok-fleet-2.fleet.keeps run) c.args.w.now Z c.args.steps c.in_ok-fleet-2.fleet ended.fleet_is
+          (leaves Z (fleet-own g.L.Locked.lock g.L.Locked.clock (λ V k. HasEnded g.L.Locked.lock g.L.Locked.clock V Z k c.in_ok-fleet-2.fleet c.in_ok-fleet-2.outcome) c.args.w.now Z c.args.steps c.in_ok-fleet-2.fleet ended.fleet_is ended)))) c.end.ensures;
+    }

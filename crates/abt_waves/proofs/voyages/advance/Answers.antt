@@ -23,7 +23,7 @@ returns g c =
         fits = c.turn-turn.ensures.fits;
         shapes = c.turn-turn.ensures.shapes Z shapes;
         few = few-after (g.C.Locked.locks c.args.locks.now) g.C.Locked.lock Z c.prepare.new.stream c.args.pass.now c.turn-turn.new.stream c.turn-turn.new.pass (2 ^ 55) c.in_ok-prepare.ensures.ready.few c.turn-turn.result turned;
-        within = c.log.ensures.steps;
+        within = c.steps.ensures.steps;
         own = c.turn-turn.ensures.pass;
         number = c.turn-turn.ensures.number ∙ (c.requires.has.number ∙ ap (λ (k : StreamNo). k.0) (sym same ∙ sym c.turn-turn.ensures.stream));
       };
@@ -31,6 +31,6 @@ returns g c =
           (turned-gone (g.C.Locked.locks c.args.locks.now) g.C.Locked.lock Z first c.prepare.new.stream c.args.pass.now c.turn-turn.new.stream c.turn-turn.new.pass (c.requires.has.number ∙ ap (λ (k : StreamNo). k.0) (sym same))
           (prepared-gone (g.C.Locked.locks c.args.locks.now) g.C.Locked.lock (g.C.Locked.locks c.args.locks.now).objects.workload Z first c.args.stream.now c.prepare.new.stream c.args.pass.now c.in_ok-prepare.ensures.same
           (subst (λ V. HasGone (g.C.Locked.locks c.args.locks.now) g.C.Locked.lock V Z first c.args.stream.now c.args.pass.now) (sym c.requires.locks) gone))
-          c.turn-turn.result turned c.turn-turn.ensures.stream c.turn-turn.ensures.budget);
+          c.turn-turn.result turned c.turn-turn.ensures.stream c.turn-turn.ensures.budget c.turn-turn.ensures.keeps);
       worn = λ worn. turned-worn (g.C.Locked.locks c.args.locks.now) g.C.Locked.lock Z c.prepare.new.stream c.args.pass.now c.turn-turn.new.stream c.turn-turn.new.pass c.turn-turn.result worn turned;
     }

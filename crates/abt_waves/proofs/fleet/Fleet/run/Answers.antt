@@ -39,6 +39,9 @@ wave-requires g c κs =
 pub returns-in-Some-ended : goal.returns-in-Some-ended
 returns-in-Some-ended g c =
     let Z = stored_by (g.O.Orders.shapes c.args.orders.now) (g.P.Work.returns c.args.work.now) in
-    has-ended g.L.Locked.lock g.L.Locked.clock c.args.self.workload Z c.args.self.steps c.in_ok-fleet.fleet
-    (own-fleet g.L.Locked.lock g.L.Locked.clock (λ V k. IsFleetOf g.L.Locked.lock g.L.Locked.clock V Z k c.in_ok-fleet.fleet) c.args.self.workload Z c.args.self.steps c.waves.fleet c.waves.invariant.fleet c.in_ok-fleet.ensures.fleet)
-    c.in-Some-ended.outcome c.in-Some-ended.ensures
+    record {
+      ended = has-ended g.L.Locked.lock g.L.Locked.clock c.args.self.workload Z c.args.self.steps c.in_ok-fleet.fleet
+          (own-fleet g.L.Locked.lock g.L.Locked.clock (λ V k. IsFleetOf g.L.Locked.lock g.L.Locked.clock V Z k c.in_ok-fleet.fleet) c.args.self.workload Z c.args.self.steps c.waves.fleet c.waves.invariant.fleet c.in_ok-fleet.ensures.fleet)
+          c.in-Some-ended.outcome c.in-Some-ended.ensures;
+      keeps = c.in_ok-fleet.ensures.keeps ∙ c.waves.invariant.keeps;
+    }

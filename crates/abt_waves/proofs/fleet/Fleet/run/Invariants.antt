@@ -9,5 +9,6 @@ invariant-waves g l = record {
   next : (goal.iterator-waves g).can_next l.iterator';
   finite : (goal.iterator-waves g).is_finite l.iterator';
   fleet : IsFleetOf g.L.Locked.lock g.L.Locked.clock l.fn.self.workload (stored_by (g.O.Orders.shapes l.orders) (g.P.Work.returns l.work)) l.fn.self.steps l.fleet;
+  keeps : l.fleet.keeps ≡ l.fn.self.keeps;
   flags : length l.live.items ≡ l.fn.self.workload.streams;
 }

@@ -11,7 +11,7 @@ use Rattle.abt_waves.proofs.fleet.Fleet.wave.Goals as goal
 pub sail-requires : goal.sail-requires
 sail-requires g c κs =
     let Z = stored_by (g.O.Orders.shapes c.args.orders.now) (g.P.Work.returns c.args.work.now) in
-    let is : IsFleetOf g.L.Locked.lock g.L.Locked.clock c.self.inside.w.now Z c.self.inside.steps (fleet_of c.self.inside.w.now c.self.inside.steps c.self.inside.objects c.self.inside.streams.items) =
+    let is : IsFleetOf g.L.Locked.lock g.L.Locked.clock c.self.inside.w.now Z c.self.inside.steps (fleet_of c.self.inside.w.now c.self.inside.steps c.self.inside.keeps c.self.inside.objects c.self.inside.streams.items) =
     subst (λ (v : CrewValue). IsFleetOf g.L.Locked.lock g.L.Locked.clock v.workload Z v.steps v) (sym c.self.view_is) c.requires.fleet in
     let calls = subst (λ (v : CrewValue). CallsStored v.workload (g.P.Work.count c.args.work.now)) (sym c.self.view_is) c.requires.calls in
     (search sendable depth 20, (search sendable depth 20, (search sendable depth 20, (search sendable depth 20, (search sendable depth 20, ((refl, tt), (calls, ((c.self.inside.steps, is.fleet_is), c.requires.flags ∙ ap (λ (v : CrewValue). v.workload.streams) (sym c.self.view_is)))))))))
@@ -19,8 +19,8 @@ sail-requires g c κs =
 pub returns : goal.returns
 returns g c =
     let Z = stored_by (g.O.Orders.shapes c.args.orders.now) (g.P.Work.returns c.args.work.now) in
-    let is : IsFleetOf g.L.Locked.lock g.L.Locked.clock c.self.inside.w.now Z c.self.inside.steps (fleet_of c.self.inside.w.now c.self.inside.steps c.self.inside.objects c.self.inside.streams.items) =
+    let is : IsFleetOf g.L.Locked.lock g.L.Locked.clock c.self.inside.w.now Z c.self.inside.steps (fleet_of c.self.inside.w.now c.self.inside.steps c.self.inside.keeps c.self.inside.objects c.self.inside.streams.items) =
     subst (λ (v : CrewValue). IsFleetOf g.L.Locked.lock g.L.Locked.clock v.workload Z v.steps v) (sym c.self.view_is) c.requires.fleet in
-    let next : IsFleetOf g.L.Locked.lock g.L.Locked.clock c.self.inside.w.now Z c.self.inside.steps (fleet_of c.self.inside.w.now c.self.inside.steps c.in_ok-objects.objects c.in_ok-objects.streams.items) =
-    record { workload = refl; steps = refl; fleet_is = c.in_ok-objects.ensures.fleet c.self.inside.steps is.fleet_is } in
-    record { fleet = subst (λ (v : CrewValue). IsFleetOf g.L.Locked.lock g.L.Locked.clock v.workload Z v.steps (fleet_of c.self.inside.w.now c.self.inside.steps c.in_ok-objects.objects c.in_ok-objects.streams.items)) c.self.view_is next }
+    let next : IsFleetOf g.L.Locked.lock g.L.Locked.clock c.self.inside.w.now Z c.self.inside.steps (fleet_of c.self.inside.w.now c.self.inside.steps c.self.inside.keeps c.in_ok-objects.objects c.in_ok-objects.streams.items) =
+    record { workload = refl; steps = refl; kept = c.in_ok-objects.ensures.keeps c.self.inside.keeps is.kept; fleet_is = c.in_ok-objects.ensures.fleet c.self.inside.steps is.fleet_is } in
+    record { fleet = subst (λ (v : CrewValue). IsFleetOf g.L.Locked.lock g.L.Locked.clock v.workload Z v.steps (fleet_of c.self.inside.w.now c.self.inside.steps c.self.inside.keeps c.in_ok-objects.objects c.in_ok-objects.streams.items)) c.self.view_is next; keeps = ap (λ (v : CrewValue). v.keeps) c.self.view_is }
