@@ -9,3 +9,4 @@ mod series;
 mod tests;
 
 pub use functions::TextFunctions;
+pub use primes::is_prime;

@@ -70,7 +70,7 @@ module _ {Z : Type 0} (rest : List (String Z)) (a : App) (is : a ≡ run_app) wh
   joins-one : (r : List Text) (f : Text) → r ≡ f ∷ [] → Joins None r (Some f)
   joins-one r f e = subst (λ (l : List Text). Joins None l (Some f)) (sym e) refl
 
-  joins-steps : (vs : List Text) (n : ℕ) → SaysSteps vs n → (v : Option Text) × Joins None vs v
+  joins-steps : (vs : List Text) (n : Option ℕ) → SaysSteps vs n → (v : Option Text) × Joins None vs v
   joins-steps [] n h = (None, refl)
   joins-steps (v ∷ []) n h = (Some v, refl)
   joins-steps (v ∷ w ∷ vs) n h = absurd h

@@ -11,3 +11,4 @@ pub mod Found
 pub mod FoundAlone
 pub mod Turns
 pub mod WordsAlone
+pub mod Asking

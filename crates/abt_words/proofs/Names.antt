@@ -1,5 +1,5 @@
 -- No two commands have one name.
-use Rattle.std.proofs.Common.{◌≡◌, ℕ, Bool, ◌+◌, ◌*◌, ap, [], ◌∷◌, codes, length, arith}
+use Rattle.std.proofs.Common.{◌≡◌, ℕ, Bool, ◌+◌, ◌*◌, ap, Option, [], ◌∷◌, codes, length, arith}
 use Rattle.abt_words.specs.declared.commands.Command.{Command}
 use Rattle.abt_words.specs.declared.commands.Command.TheVariants as command
 use Rattle.abt_words.specs.Commands.{SaysBy, SaysFile, SaysFiles, SaysRun, SaysSelf, Rest}
@@ -12,7 +12,7 @@ mark (c ∷ cs) = c + 1000 * length cs
 
 module _ (r : Rest) (P : Command → Type 0) where
   -- what says a command by its name says one of that kind
-  pub by-run : ((f : Text) (n : ℕ) (j : Bool) → SaysRun r f n j → P (command.Run f n j)) → (c : Command) → SaysBy (codes "run") r c → P c
+  pub by-run : ((f : Text) (n : Option ℕ) (j : Bool) → SaysRun r f n j → P (command.Run f n j)) → (c : Command) → SaysBy (codes "run") r c → P c
   by-run h (command.Run f n j) says = h f n j says.1
   by-run h (command.SelfRun n) says = absurd (let e : 2114 ≡ 3115 = ap mark says.0 in omega arith)
   by-run h (command.Check w j) says = absurd (let e : 2114 ≡ 4099 = ap mark says.0 in omega arith)

@@ -1,14 +1,15 @@
 -- Words say at most one command.
-use Rattle.std.proofs.Common.{◌≡◌, ℕ, Bool, true, false, refl, sym, ap, ap₂, subst, ◌∙◌, List, [], ◌∷◌, codes, arith}
+use Rattle.std.proofs.Common.{◌≡◌, ℕ, Bool, true, false, refl, sym, ap, ap₂, subst, ◌∙◌, List, [], ◌∷◌, Option, Some, None, codes, arith}
 use Rattle.std.specs.Str.Parse.{digits_value}
 use Rattle.std.specs.Prelude.{IfOk, Result, Ok, Err}
 use Rattle.abt_words.specs.declared.fault.WordFault.{WordFault}
 use Rattle.abt_words.specs.declared.commands.Command.{Command}
 use Rattle.abt_words.specs.declared.commands.Command.TheVariants as command
 use Rattle.abt_machine.specs.Words.{Text}
-use Rattle.abt_machine.specs.Limits.{step_limit}
+use Rattle.abt_machine.specs.declared.grammar.Format.TheVariants as format
 use Rattle.abt_machine.specs.Spelling.{SaysNumber}
 use Rattle.abt_words.specs.Commands.{Rest, Says, SaysBy, SaysFile, SaysFiles, SaysRun, SaysSelf, SaysSteps, journal_count, rest_of}
+use Rattle.abt_words.specs.Steps.{step_limit_of}
 use Rattle.abt_words.proofs.Names.{by-check, by-flow, by-run, by-self}
 
 head-of : (x y : Text) (xs ys : List Text) → x ∷ xs ≡ y ∷ ys → x ≡ y
@@ -20,9 +21,11 @@ tail-of x y xs ys e = cc
 one-number : (most : ℕ) (digits : Text) (m n : ℕ) → SaysNumber most digits m → SaysNumber most digits n → m ≡ n
 one-number most digits m n a b = a.1 ∙ sym b.1
 
-one-steps : (vs : List Text) (m n : ℕ) → SaysSteps vs m → SaysSteps vs n → m ≡ n
+one-steps : (vs : List Text) (m n : Option ℕ) → SaysSteps vs m → SaysSteps vs n → m ≡ n
 one-steps [] m n a b = a ∙ sym b
-one-steps (v ∷ []) m n a b = one-number step_limit v m n a b
+one-steps (v ∷ []) None n a b = absurd a
+one-steps (v ∷ []) (Some m) None a b = absurd b
+one-steps (v ∷ []) (Some m) (Some n) a b = ap (λ (k : ℕ). Some k) (one-number (step_limit_of format.Three) v m n a b)
 one-steps (v ∷ w ∷ vs) m n a b = absurd a
 
 one-journal : (j k : Bool) → journal_count j ≡ journal_count k → j ≡ k
@@ -32,7 +35,7 @@ one-journal false true e = absurd (omega (arith, e))
 one-journal false false e = refl
 
 module _ (r : Rest) where
-  one-run : (f : Text) (m : ℕ) (j : Bool) → SaysRun r f m j → (d : Command) → SaysBy (codes "run") r d → command.Run f m j ≡ d
+  one-run : (f : Text) (m : Option ℕ) (j : Bool) → SaysRun r f m j → (d : Command) → SaysBy (codes "run") r d → command.Run f m j ≡ d
   one-run f m j a = by-run r (λ d. command.Run f m j ≡ d) (λ g n k b.
       let file : f ≡ g = head-of f g [] [] (sym a.0 ∙ b.0) in
       let steps : m ≡ n = one-steps r.steps m n a.2 b.2 in

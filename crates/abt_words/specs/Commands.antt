@@ -1,11 +1,13 @@
 -- Which command the words after the program's name say.
-use Rattle.std.specs.Prelude.{◌≡◌, ◌≢◌, ◌==◌, ℕ, suc, if◌then◌else◌, Bool, true, false, List, [], ◌∷◌, take, drop, codes}
+use Rattle.std.specs.Prelude.{◌≡◌, ◌≢◌, ◌==◌, ℕ, suc, if◌then◌else◌, Bool, true, false, List, [], ◌∷◌, Option, Some, None, take, drop, codes}
 use Rattle.std.specs.Str.{bytes_eq}
-use Rattle.abt_machine.specs.Limits.{adder_limit, default_steps, step_limit}
+use Rattle.abt_machine.specs.declared.grammar.Format.TheVariants as format
+use Rattle.abt_machine.specs.Limits.{adder_limit}
 use Rattle.abt_machine.specs.Spelling.{SaysNumber}
 use Rattle.abt_machine.specs.Words.{Text}
 use Rattle.abt_words.specs.declared.commands.Command.{Command}
 use Rattle.abt_words.specs.declared.commands.Command.TheVariants as command
+use Rattle.abt_words.specs.Steps.{step_limit_of}
 
 -- the rest, which is the words after the command's name: its FILE or N words, the values of its steps options, and how many times
 -- `--journal` and any other option appear in it
@@ -50,18 +52,19 @@ rest_of false (w ∷ ws) =
     else if is_option w then and_other (rest_of false ws)
     else and_word w (rest_of false ws)
 
--- 10,000 steps if no option says them, and at most one option does
-abbrev pub SaysSteps : List Text → ℕ → Type 0
-SaysSteps [] n = n ≡ default_steps
-SaysSteps (v ∷ []) n = SaysNumber step_limit v n
-SaysSteps (v ∷ w ∷ vs) n = ⊥
+-- at most one option asks for steps, and for no more than the last format allows
+abbrev pub SaysSteps : List Text → Option ℕ → Type 0
+SaysSteps [] asked = asked ≡ None
+SaysSteps (v ∷ []) None = ⊥
+SaysSteps (v ∷ []) (Some n) = SaysNumber (step_limit_of format.Three) v n
+SaysSteps (v ∷ w ∷ vs) asked = ⊥
 
 abbrev pub journal_count : Bool → ℕ
 journal_count false = 0
 journal_count true = 1
 
 -- exactly one FILE, of at least one byte, at most one steps option and at most one `--journal`, in any order
-abbrev pub SaysRun : Rest → Text → ℕ → Bool → Type 0
+abbrev pub SaysRun : Rest → Text → Option ℕ → Bool → Type 0
 SaysRun r file steps journal =
     (r.words ≡ file ∷ []) × (file ≢ []) × SaysSteps r.steps steps × (r.journals ≡ journal_count journal) × (r.others ≡ 0)
 

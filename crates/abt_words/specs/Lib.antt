@@ -1,3 +1,4 @@
 pub mod Apps
 pub mod Asked
 pub mod Commands
+pub mod Steps

@@ -5,10 +5,11 @@ use abt_machine::Text;
 /// What the words after the program's name ask for.
 #[derive(Drop)]
 pub enum Command {
-    /// Runs the workload in a file, each stream making at most this many steps; whether the journal is printed.
+    /// Runs the workload in a file, each stream making at most this many steps, if a word asks for a number of them; whether the
+    /// journal is printed.
     Run {
         file: Text,
-        steps: u64,
+        steps: Option<u64>,
         journal: bool,
     },
     /// Runs the workload that is generated for this many units.

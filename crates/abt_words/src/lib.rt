@@ -10,12 +10,14 @@ mod clap_commands;
 mod command;
 mod commands;
 mod fault;
-mod number;
+mod numbers;
 mod on_files;
 mod run;
 mod self_run;
+mod steps;
 
 pub use command::words;
 pub use commands::Command;
 pub use fault::WordFault;
-pub use run::DEFAULT_STEPS;
+pub use numbers::number;
+pub use steps::{DEFAULT_STEPS, allowed_steps, default_steps};

@@ -1,6 +1,6 @@
 //! The words after `run`.
 
-ghost use Rattle.std.specs.Prelude.{◌≡◌, ℕ, IfOk, MatchOption, false, map, option_map, string_bytes, codes};
+ghost use Rattle.std.specs.Prelude.{◌≡◌, ℕ, IfOk, Option, false, map, option_map, string_bytes, codes};
 ghost use Rattle.abt_words.specs.declared.commands.Command.{Command};
 ghost use Rattle.abt_words.specs.Commands.{SaysBy, SaysSteps, rest_of};
 ghost use Rattle.abt_words.specs.Asked.{at_most_one, rest_as};
@@ -8,15 +8,10 @@ ghost use Rattle.abt_words.specs.Asked.{at_most_one, rest_as};
 use crate::WordFault;
 use crate::clap_commands::{found, run_command};
 use crate::commands::Command;
-use crate::number::number;
+use crate::numbers::number;
+use crate::steps::MOST_STEPS;
 use abt_machine::Text;
 use std::alloc::Global;
-
-/// The steps for each stream if no word says them.
-pub const DEFAULT_STEPS: u64 = 10_000;
-
-// The greatest number of steps for each stream that an option may say.
-const MOST_STEPS: u64 = 100_000;
 
 /// The words after `run`, told apart: FILE, the value of the steps option, and whether `--journal` is there.
 #[derive(Clone, Copy)]
@@ -39,14 +34,18 @@ fn run_words<'a>(alloc: Global, rest: &'a [String]) -> Result<RunWords<'a>, Word
     })
 }
 
-// The steps for each stream that the option's value, or its absence, says.
-fn steps(value: Option<&str>) -> Option<u64>
-    ensures { MatchOption result ((n : ℕ) → SaysSteps (at_most_one (option_map (λ v. v.now) value.entry)) n → ⊥)
-        (λ n. SaysSteps (at_most_one (option_map (λ v. v.now) value.entry)) n) }
+// The steps for each stream that the option's value asks for, if the option is there.
+#[tactic(auto, using(crate::proofs::Asking::asks_none))]
+fn asked_steps(value: Option<&str>) -> Result<Option<u64>, WordFault>
+    ensures said { IfOk result (λ asked. SaysSteps (at_most_one (option_map (λ v. v.now) value.entry)) asked) }
+    ensures bad { result ≡ Err WordFault.Bad → (asked : Option ℕ) → SaysSteps (at_most_one (option_map (λ v. v.now) value.entry)) asked → ⊥ }
 {
-    match value {
-        Some(text) => number(text, MOST_STEPS),
-        None => Some(DEFAULT_STEPS),
+    let Some(text) = value else {
+        return Ok(None);
+    };
+    match number(text, MOST_STEPS) {
+        Some(steps) => Ok(Some(steps)),
+        None => Err(WordFault::Bad),
     }
 }
 
@@ -58,9 +57,7 @@ fn asked_run(alloc: Global, asked: RunWords) -> Result<Command, WordFault>
     if asked.file.is_empty() {
         return Err(WordFault::Bad);
     }
-    let Some(steps) = steps(asked.steps) else {
-        return Err(WordFault::Bad);
-    };
+    let steps = asked_steps(asked.steps)?;
     Ok(Command::Run {
         file: Text::new(String::from_str(alloc, asked.file)?),
         steps,

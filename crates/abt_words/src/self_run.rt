@@ -7,7 +7,7 @@ ghost use Rattle.abt_words.specs.Commands.{SaysBy, rest_of};
 use crate::WordFault;
 use crate::alone::one_word;
 use crate::commands::Command;
-use crate::number::number;
+use crate::numbers::number;
 use std::alloc::Global;
 
 // The greatest number of units that the program generates.

@@ -142,8 +142,8 @@ fn format_named(word: &[u8]) -> Format
     }
 }
 
-/// The format of a text.
-pub(crate) fn format_of(text: &[u8]) -> Format
+/// The format of a text, by the first line that is not skipped: the first format, unless that line says another one.
+pub fn format_of(text: &[u8]) -> Format
     ensures { result ≡ format_of (lines_of text.now) }
 {
     let mut rest = text;

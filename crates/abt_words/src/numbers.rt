@@ -5,7 +5,7 @@ ghost use Rattle.abt_machine.specs.Spelling.{SaysNumber};
 
 /// The number that one or more ASCII digits write, if it is from 1 to `most`. Leading zeros are allowed, signs are not:
 /// `parse` alone would take a plus.
-pub(crate) fn number(text: &str, most: u64) -> Option<u64>
+pub fn number(text: &str, most: u64) -> Option<u64>
     ensures { MatchOption result ((n : ℕ) → SaysNumber most text.now n → ⊥) (λ n. SaysNumber most text.now n) }
 {
     if text.as_bytes().first() == Some(&b'+') {
