@@ -12,7 +12,7 @@ use Rattle.abt_machine.specs.Limits.{default_steps}
 use Rattle.abt_bounds.specs.Laws.{HasNoRevive, ops_in}
 use Rattle.abt_bounds.proofs.Budgets.{steps-bound-budgets}
 use Rattle.abt_outcomes.proofs.Stored.{orders-stored}
-use Rattle.abt_run.specs.Call.{Call, IsOfRun}
+use Rattle.abt_run.specs.Call.{IsOfRun}
 use Rattle.abt_run.proofs.Complete.{no-fault, outcome-is-of-run, reads-whole}
 use Rattle.abt_shell.specs.declared.status.Stop.TheVariants.{BadWords, BadLine, CannotRead, OutOfMemory}
 use Rattle.abt_shell.specs.declared.status.Wrong.TheVariants.{Workload, Journal, Lives}
@@ -23,7 +23,7 @@ use Rattle.abt_shell.proofs.Calls.{reads-well, writes-well}
 use Rattle.abt_shell.proofs.Fetched.{of-observed}
 use Rattle.abt_streams.specs.declared.life.Life.{Life}
 use Rattle.abt_workload.proofs.RoundTrip.{only-valid}
-use Rattle.abt_lives.specs.Call.{IsAnswered, MissesFiles, MissesLives, NamesFiles, RanOnLives, TellsWorkload, TellsBoth, program}
+use Rattle.abt_lives.specs.Call.{Call, IsAnswered, MissesFiles, MissesLives, NamesFiles, RanOnLives, TellsWorkload, TellsBoth, program}
 use Rattle.abt_lives.specs.Lives.{ReadsLives, RefusesLives}
 use Rattle.abt_lives.specs.Words.{AsksNothing}
 use Rattle.abt_lives.proofs.Naming.{of-first, of-second, one-workload, same-names}

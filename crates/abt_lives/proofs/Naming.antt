@@ -4,9 +4,8 @@ use Rattle.std.specs.Prelude.{IfSome}
 use Rattle.abt_machine.specs.declared.workload.Parts.{Parts}
 use Rattle.abt_machine.specs.Grammar.{Reads}
 use Rattle.abt_machine.specs.Words.{Text}
-use Rattle.abt_run.specs.Call.{Call}
 use Rattle.abt_shell.proofs.Fetched.{of-observed}
-use Rattle.abt_lives.specs.Call.{NamesFiles, TellsWorkload, TellsBoth}
+use Rattle.abt_lives.specs.Call.{Call, NamesFiles, TellsWorkload, TellsBoth}
 
 pair-is : (a b c d : Text) → a ∷ b ∷ [] ≡ c ∷ d ∷ [] → (a ≡ c) × (b ≡ d)
 pair-is a b c d e = (cc, cc)

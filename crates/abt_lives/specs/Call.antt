@@ -10,12 +10,12 @@ use Rattle.abt_machine.specs.Runs.{last_state}
 use Rattle.abt_machine.specs.Texts.{report_text}
 use Rattle.abt_machine.specs.Words.{Text}
 use Rattle.abt_bounds.specs.Laws.{HasNoRevive, ops_in}
-use Rattle.abt_run.specs.Call.{Call, IsOfRun}
+use Rattle.abt_run.specs.Call.{IsOfRun}
 use Rattle.abt_run.specs.Given.{Given, IsReadFrom}
 use Rattle.abt_shell.specs.declared.status.Stop.{Stop}
 use Rattle.abt_shell.specs.declared.status.Wrong.{Wrong}
 use Rattle.abt_shell.specs.declared.status.Wrong.TheVariants.{Workload, Journal, Lives}
-use Rattle.abt_shell.specs.Calls.{EndsBy, HasReadFault, Program}
+use Rattle.abt_shell.specs.Calls.{EndsBy, HasReadFault, Left, Program}
 use Rattle.abt_shell.specs.Fetched.{StopsFor}
 use Rattle.abt_shell.specs.Status.{number_of_outcome}
 use Rattle.abt_shell.specs.Told.{Grew}
@@ -24,6 +24,13 @@ use Rattle.abt_streams.specs.declared.wave.Wave.{Wave}
 use Rattle.abt_streams.specs.Waves.{HasRunOn}
 use Rattle.abt_lives.specs.Lives.{ReadsLives, RefusesLives, waves_text}
 use Rattle.abt_lives.specs.Words.{Asks, AsksNothing}
+
+-- what the call was given, of which names it is observable that no file has them, what it left, and the journal that was returned
+pub record Call : Type 1 where
+  pub given : Given
+  pub absent : Text → Type 0
+  pub left : Left
+  pub journal : List Event
 
 -- What is known of the files.
 

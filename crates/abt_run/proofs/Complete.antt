@@ -37,14 +37,17 @@ use Rattle.abt_shell.specs.Status.{Status, Concluded, Stopped, CannotWrite, numb
 use Rattle.abt_shell.specs.Told.{Grew}
 use Rattle.abt_shell.proofs.Calls.{reads-well, writes-well}
 use Rattle.abt_shell.proofs.Fetched.{of-observed}
-use Rattle.abt_run.specs.Call.{Call, Decides, IsAnswered, IsOfRun, MissesFiles, MissesJournals, RunsKnown, program}
+use Rattle.abt_run.specs.Call.{Call, Decides, IsAnswered, IsOfRun, MissesFiles, MissesJournals, RefusesSteps, RunsKnown, program}
 use Rattle.abt_run.specs.Given.{Compares, Given, IsReadFrom, SaysNothing, Tells, workload_file}
-use Rattle.abt_run.specs.Prepared.{HasNoWorkload, LacksSecond}
-use Rattle.abt_run.specs.Printed.{AsksFlow, HasVerdict, IsFor, Prints, Ran, steps_for}
+use Rattle.abt_run.specs.Prepared.{HasNoWorkload, IsBadCommand, LacksSecond}
+use Rattle.abt_run.specs.Printed.{AsksFlow, HasVerdict, IsFor, Prints, Ran}
 use Rattle.abt_run.specs.Status.{number_of_conclusion}
+use Rattle.abt_run.specs.declared.keeping.Keep.{Keep}
+use Rattle.abt_run.specs.Steps.{AsksBeyond, MayMake}
 use Rattle.abt_run.specs.declared.status.Conclusion.{Conclusion}
 use Rattle.abt_run.specs.declared.status.Conclusion.TheVariants.{Ended, Judged, Flows, NotConfluent, Undefined}
 use Rattle.abt_run.proofs.Preparing.{none-is, some-is}
+use Rattle.abt_run.proofs.Stepping.{check-asks-none, flow-asks-none, same-steps}
 use Rattle.abt_run.proofs.Texts.{one-journal}
 
 -- Files.
@@ -138,8 +141,8 @@ runs-valid g (command.Flow f) W says known = absurd known
 
 -- What is printed determines the command.
 
-module _ (g : Given) (J : List Event) (text : Text) where
-  printed-says : (c : Conclusion) → Prints g c J text → (d : Command) × Says g.words d
+module _ (g : Given) (keep : Keep) (J : Option (List Event)) (text : Text) where
+  printed-says : (c : Conclusion) → Prints g keep c J text → (d : Command) × Says g.words d
   printed-says (Ended o) prints = (prints.command, prints.says)
   printed-says (Judged v) prints = (_, prints.0.compares.says)
   printed-says Flows prints = (_, prints.0.asks.says)
@@ -147,7 +150,7 @@ module _ (g : Given) (J : List Event) (text : Text) where
   printed-says Undefined prints = (_, prints.0.asks.says)
 
   module _ (d : Command) (file : Text) (says : Says g.words d) (names : workload_file d ≡ Some file) where
-    ran-reads : (o : Outcome) → Ran g J o text → (W : Parts) × IsReadFrom g file W
+    ran-reads : (o : Outcome) → Ran g keep J o text → (W : Parts) × IsReadFrom g file W
     ran-reads o ran = (ran.workload, runs-read g d file ran.workload (subst (λ (x : Command). IsFor x g ran.workload) (one-command g.words ran.command d ran.says says) ran.is) names)
 
     flow-reads : (W : Parts) → AsksFlow g W → (V : Parts) × IsReadFrom g file V
@@ -156,7 +159,7 @@ module _ (g : Given) (J : List Event) (text : Text) where
         (W, subst (λ (n : Text). IsReadFrom g n W) same asks.reads)
 
     -- a workload is read from the file that the words name
-    printed-reads : (c : Conclusion) → Prints g c J text → (W : Parts) × IsReadFrom g file W
+    printed-reads : (c : Conclusion) → Prints g keep c J text → (W : Parts) × IsReadFrom g file W
     printed-reads (Ended o) prints = ran-reads o prints
     printed-reads (Judged v) prints =
         let compares = prints.0.compares in
@@ -168,13 +171,13 @@ module _ (g : Given) (J : List Event) (text : Text) where
 
   -- words that ask for a check print a verdict
   module _ (w j : Text) (says : Says g.words (command.Check w j)) where
-    no-run : (o : Outcome) → Ran g J o text → ⊥
+    no-run : (o : Outcome) → Ran g keep J o text → ⊥
     no-run o ran = subst (λ (x : Command). IsFor x g ran.workload) (one-command g.words ran.command (command.Check w j) ran.says says) ran.is
 
     no-flow : (W : Parts) → AsksFlow g W → ⊥
     no-flow W asks = check-is-no-flow w j asks.file (one-command g.words (command.Check w j) (command.Flow asks.file) says asks.says)
 
-    printed-verdict : (c : Conclusion) → Prints g c J text → (v : Verdict) × HasVerdict g v × (c ≡ Judged v)
+    printed-verdict : (c : Conclusion) → Prints g keep c J text → (v : Verdict) × HasVerdict g v × (c ≡ Judged v)
     printed-verdict (Ended o) prints = absurd (no-run o prints)
     printed-verdict (Judged v) prints = (v, prints.0, refl)
     printed-verdict Flows prints = absurd (no-flow prints.0.workload prints.0.asks)
@@ -190,7 +193,7 @@ module _ (g : Given) (J : List Event) (text : Text) where
         )
 
   module _ (file : Text) (says : Says g.words (command.Flow file)) where
-    flow-no-run : (o : Outcome) → Ran g J o text → ⊥
+    flow-no-run : (o : Outcome) → Ran g keep J o text → ⊥
     flow-no-run o ran = subst (λ (x : Command). IsFor x g ran.workload) (one-command g.words ran.command (command.Flow file) ran.says says) ran.is
 
     flow-no-check : (W : Parts) (Is : Text → Type 0) → Compares g W Is → ⊥
@@ -209,7 +212,7 @@ outcome-is-of-run outcome.Stuck = inr (inl refl)
 outcome-is-of-run (outcome.Budget s) = inr (inr refl)
 
 -- the command of a known workload runs it
-runs-concluded : (c : Conclusion) (call : Call) (text : Text) (d : Command) (W : Parts) → Prints call.given c call.journal text → Says call.given.words d → RunsKnown d call.given W
+runs-concluded : (c : Conclusion) (call : Call) (text : Text) (d : Command) (W : Parts) → Prints call.given call.keep c call.journal text → Says call.given.words d → RunsKnown d call.given W
     → IsOfRun (number_of_conclusion c)
 runs-concluded (Ended o) call text d W prints says known = outcome-is-of-run o
 runs-concluded (Judged v) call text d W prints says known =
@@ -218,19 +221,24 @@ runs-concluded Flows call text d W prints says known = absurd (subst (λ (x : Co
 runs-concluded NotConfluent call text d W prints says known = absurd (subst (λ (x : Command). RunsKnown x call.given W) (one-command call.given.words d _ says prints.0.asks.says) known)
 runs-concluded Undefined call text d W prints says known = absurd (subst (λ (x : Command). RunsKnown x call.given W) (one-command call.given.words d _ says prints.0.asks.says) known)
 
-runs : (s : Status Conclusion) (c : Call) (d : Command) (W : Parts) → Holds (program c) c.left s → Says c.given.words d → RunsKnown d c.given W → IsStill c.left → IsOfRun (number_of number_of_conclusion s) ⊎ (number_of number_of_conclusion s ≡ 7)
-runs (Concluded k) c d W h says known still = inl (runs-concluded k c h.text d W h.prints says known)
-runs (Stopped BadWords) c d W h says known still = absurd (h.cause.why d says)
-runs (Stopped (BadLine line (Workload f))) c d W h says known still =
+-- words that say a command and do not ask for too many steps are not refused
+not-bad-words : (g : Given) (d : Command) → Says g.words d → (AsksBeyond g → ⊥) → IsBadCommand g → ⊥
+not-bad-words g d says within (inl none) = none d says
+not-bad-words g d says within (inr beyond) = within beyond
+
+runs : (s : Status Conclusion) (c : Call) (d : Command) (W : Parts) → Holds (program c) c.left s → Says c.given.words d → RunsKnown d c.given W → (AsksBeyond c.given → ⊥) → IsStill c.left → IsOfRun (number_of number_of_conclusion s) ⊎ (number_of number_of_conclusion s ≡ 7)
+runs (Concluded k) c d W h says known within still = inl (runs-concluded k c h.text d W h.prints says known)
+runs (Stopped BadWords) c d W h says known within still = absurd (not-bad-words c.given d says within h.cause.why)
+runs (Stopped (BadLine line (Workload f))) c d W h says known within still =
     let named = h.cause.why.named in
     let same = one-command c.given.words named.command d named.says says in
     absurd (runs-not-refused c.given d named.file W line f known (ap workload_file (sym same) ∙ named.names) h.cause.why.is)
-runs (Stopped (BadLine line Journal)) c d W h says known still =
+runs (Stopped (BadLine line Journal)) c d W h says known within still =
     absurd (subst (λ (x : Command). RunsKnown x c.given W) (one-command c.given.words d _ says h.cause.why.1.says) known)
-runs (Stopped (BadLine line Lives)) c d W h says known still = absurd h.cause.why
-runs (Stopped CannotRead) c d W h says known still = absurd (still.0 h.cause.why.1)
-runs (Stopped OutOfMemory) c d W h says known still = inr refl
-runs CannotWrite c d W h says known still = absurd (still.1 h.faults)
+runs (Stopped (BadLine line Lives)) c d W h says known within still = absurd h.cause.why
+runs (Stopped CannotRead) c d W h says known within still = absurd (still.0 h.cause.why.1)
+runs (Stopped OutOfMemory) c d W h says known within still = inr refl
+runs CannotWrite c d W h says known within still = absurd (still.1 h.faults)
 
 -- the verdict decides
 decided : (W : Parts) (Z : Stored) (J : List Event) (v : Verdict) → IsJudged W Z J v → Decides (number_of_conclusion (Judged v)) (IsStampedRun W Z J)
@@ -247,22 +255,22 @@ module _ (c : Call) (w j : Text) (W : Parts) (J : List Event) (says : Says c.giv
     (tells : Tells c.given w (λ bytes. Reads bytes W)) (also : Tells c.given j (IsTextOf J)) where
   checked-verdict : (v : Verdict) → HasVerdict c.given v → Decides (number_of_conclusion (Judged v)) (IsStampedRun W c.given.stored J)
   checked-verdict v has =
-      let read = compared-journal c.given c.journal [] w j says has.workload (IsTextOf has.journal) has.compares in
+      let read = compared-journal c.given c.keep c.journal [] w j says has.workload (IsTextOf has.journal) has.compares in
       let same : has.workload ≡ W = same-workload c.given w W has.workload tells read.0 in
       let equal : has.journal ≡ J = same-journal c.given j J has.journal also read.1 in
       decided W c.given.stored J v (subst (λ (V : Parts). IsJudged V c.given.stored J v) same (subst (λ (K : List Event). IsJudged has.workload c.given.stored K v) equal has.judged))
 
   checks : (s : Status Conclusion) → Holds (program c) c.left s → IsStill c.left → Decides (number_of number_of_conclusion s) (IsStampedRun W c.given.stored J) ⊎ (number_of number_of_conclusion s ≡ 7)
   checks (Concluded k) h still =
-      let has = printed-verdict c.given c.journal h.text w j says k h.prints in
+      let has = printed-verdict c.given c.keep c.journal h.text w j says k h.prints in
       inl (subst (λ (x : Conclusion). Decides (number_of_conclusion x) (IsStampedRun W c.given.stored J)) (sym has.2) (checked-verdict has.0 has.1))
-  checks (Stopped BadWords) h still = absurd (h.cause.why _ says)
+  checks (Stopped BadWords) h still = absurd (not-bad-words c.given _ says (check-asks-none c.given w j says) h.cause.why)
   checks (Stopped (BadLine line (Workload f))) h still =
       let named = h.cause.why.named in
       let same : named.file ≡ w = some-is _ _ (sym named.names ∙ ap workload_file (one-command c.given.words named.command (command.Check w j) named.says says)) in
       absurd (not-refused c.given w W line f tells (subst (λ (n : Text). IfSome (c.given.file n) (λ bytes. Refuses bytes line f)) same h.cause.why.is))
   checks (Stopped (BadLine line Journal)) h still =
-      absurd (not-bad c.given j J line also (compared-journal c.given c.journal [] w j says h.cause.why.0 (λ bytes. IsNoJournalAt bytes line) h.cause.why.1).1)
+      absurd (not-bad c.given j J line also (compared-journal c.given c.keep c.journal [] w j says h.cause.why.0 (λ bytes. IsNoJournalAt bytes line) h.cause.why.1).1)
   checks (Stopped (BadLine line Lives)) h still = absurd h.cause.why
   checks (Stopped CannotRead) h still = absurd (still.0 h.cause.why.1)
   checks (Stopped OutOfMemory) h still = inr refl
@@ -272,101 +280,100 @@ abbrev HasFlows : Functions → Parts → Type 0
 HasFlows R W = Confluent W × ((rows : List (List Piece)) × IsFlow W R rows)
 
 module _ (c : Call) (file : Text) (W : Parts) (says : Says c.given.words (command.Flow file)) (tells : Tells c.given file (λ bytes. Reads bytes W)) where
-  flow-concluded : (k : Conclusion) (text : Text) → Prints c.given k c.journal text → Decides (number_of_conclusion k) (HasFlows c.given.stored.returns W)
-  flow-concluded (Ended o) text prints = absurd (flow-no-run c.given c.journal text file says o prints)
-  flow-concluded (Judged v) text prints = absurd (flow-no-check c.given c.journal text file says prints.0.workload (IsTextOf prints.0.journal) prints.0.compares)
+  flow-concluded : (k : Conclusion) (text : Text) → Prints c.given c.keep k c.journal text → Decides (number_of_conclusion k) (HasFlows c.given.stored.returns W)
+  flow-concluded (Ended o) text prints = absurd (flow-no-run c.given c.keep c.journal text file says o prints)
+  flow-concluded (Judged v) text prints = absurd (flow-no-check c.given c.keep c.journal text file says prints.0.workload (IsTextOf prints.0.journal) prints.0.compares)
   flow-concluded Flows text prints =
-      let same = flow-asked c.given c.journal text file says W prints.0.workload tells prints.0.asks in
+      let same = flow-asked c.given c.keep c.journal text file says W prints.0.workload tells prints.0.asks in
       inl (subst (HasFlows c.given.stored.returns) same (prints.0.confluent, (prints.0.rows, prints.0.flow)), refl)
   flow-concluded NotConfluent text prints =
-      let same = flow-asked c.given c.journal text file says W prints.0.workload tells prints.0.asks in
+      let same = flow-asked c.given c.keep c.journal text file says W prints.0.workload tells prints.0.asks in
       inr (λ has. prints.0.other (subst Confluent (sym same) has.0), refl)
   flow-concluded Undefined text prints =
-      let same = flow-asked c.given c.journal text file says W prints.0.workload tells prints.0.asks in
+      let same = flow-asked c.given c.keep c.journal text file says W prints.0.workload tells prints.0.asks in
       inr (λ has. prints.0.none has.1.0 (subst (λ (V : Parts). IsFlow V c.given.stored.returns has.1.0) (sym same) has.1.1), refl)
 
   flows : (s : Status Conclusion) → Holds (program c) c.left s → IsStill c.left → Decides (number_of number_of_conclusion s) (HasFlows c.given.stored.returns W) ⊎ (number_of number_of_conclusion s ≡ 7)
   flows (Concluded k) h still = inl (flow-concluded k h.text h.prints)
-  flows (Stopped BadWords) h still = absurd (h.cause.why _ says)
+  flows (Stopped BadWords) h still = absurd (not-bad-words c.given _ says (flow-asks-none c.given file says) h.cause.why)
   flows (Stopped (BadLine line (Workload f))) h still =
       let named = h.cause.why.named in
       let same : named.file ≡ file = some-is _ _ (sym named.names ∙ ap workload_file (one-command c.given.words named.command (command.Flow file) named.says says)) in
       absurd (not-refused c.given file W line f tells (subst (λ (n : Text). IfSome (c.given.file n) (λ bytes. Refuses bytes line f)) same h.cause.why.is))
-  flows (Stopped (BadLine line Journal)) h still = absurd (flow-no-check c.given c.journal [] file says h.cause.why.0 (λ bytes. IsNoJournalAt bytes line) h.cause.why.1)
+  flows (Stopped (BadLine line Journal)) h still = absurd (flow-no-check c.given c.keep c.journal [] file says h.cause.why.0 (λ bytes. IsNoJournalAt bytes line) h.cause.why.1)
   flows (Stopped (BadLine line Lives)) h still = absurd h.cause.why
   flows (Stopped CannotRead) h still = absurd (still.0 h.cause.why.1)
   flows (Stopped OutOfMemory) h still = inr refl
   flows CannotWrite h still = absurd (still.1 h.faults)
 
 -- no stream is spent, if it can't be
-no-budget : (c : Call) (d : Command) (W : Parts) (s : StreamNo) (text : Text) → 2 ≤ length c.given.stored.orders → Says c.given.words d → RunsKnown d c.given W → HasNoRevive W
-    → ops_in W ≤ steps_for d → Ran c.given c.journal (outcome.Budget s) text → ⊥
-no-budget c d W s text two says known none few ran =
-    let same : ran.command ≡ d = one-command c.given.words ran.command d ran.says says in
-    let is : ran.workload ≡ W = runs-same c.given d W ran.workload known (subst (λ (x : Command). IsFor x c.given ran.workload) same ran.is) in
-    let most : ops_in ran.workload ≤ steps_for ran.command = subst (λ (x : Command). ops_in ran.workload ≤ steps_for x) (sym same) (subst (λ V. ops_in V ≤ steps_for d) (sym is) few) in
-    let sound : IsValid ran.workload = subst IsValid (sym is) (runs-valid c.given d W says known) in
-    steps-bound-budgets ran.workload c.given.stored sound (orders-stored ran.workload c.given.stored sound two) (subst HasNoRevive (sym is) none) (steps_for ran.command) s.0 c.journal most ran.run.run
-    ran.run.ended.0
+module _ (c : Call) (d : Command) (W : Parts) (steps : ℕ) (two : 2 ≤ length c.given.stored.orders) (says : Says c.given.words d) (known : RunsKnown d c.given W) (may : MayMake d c.given steps)
+    (none : HasNoRevive W) (few : ops_in W ≤ steps) where
+  no-budget : (s : StreamNo) (text : Text) → Ran c.given c.keep c.journal (outcome.Budget s) text → ⊥
+  no-budget s text ran =
+      let same : ran.command ≡ d = one-command c.given.words ran.command d ran.says says in
+      let is : ran.workload ≡ W = runs-same c.given d W ran.workload known (subst (λ (x : Command). IsFor x c.given ran.workload) same ran.is) in
+      let count : ran.steps ≡ steps = same-steps c.given d W ran.steps steps known (subst (λ (x : Command). MayMake x c.given ran.steps) same ran.may) may in
+      let most : ops_in ran.workload ≤ ran.steps = subst (λ (n : ℕ). ops_in ran.workload ≤ n) (sym count) (subst (λ V. ops_in V ≤ steps) (sym is) few) in
+      let sound : IsValid ran.workload = subst IsValid (sym is) (runs-valid c.given d W says known) in
+      steps-bound-budgets ran.workload c.given.stored sound (orders-stored ran.workload c.given.stored sound two) (subst HasNoRevive (sym is) none) ran.steps s.0 ran.journal most ran.run.run ran.run.ended.0
 
-spends-concluded : (k : Conclusion) (c : Call) (text : Text) (d : Command) (W : Parts) → Prints c.given k c.journal text → 2 ≤ length c.given.stored.orders → Says c.given.words d → RunsKnown d c.given W
-    → HasNoRevive W → ops_in W ≤ steps_for d → number_of_conclusion k ≢ 4
-spends-concluded (Ended outcome.Finished) c text d W prints two says known none few = λ e. absurd (omega arith)
-spends-concluded (Ended outcome.Stuck) c text d W prints two says known none few = λ e. absurd (omega arith)
-spends-concluded (Ended (outcome.Budget s)) c text d W prints two says known none few = λ e. no-budget c d W s text two says known none few prints
-spends-concluded (Judged verdict.Run) c text d W prints two says known none few = λ e. absurd (omega arith)
-spends-concluded (Judged (verdict.Bad at)) c text d W prints two says known none few = λ e. absurd (omega arith)
-spends-concluded Flows c text d W prints two says known none few = λ e. absurd (omega arith)
-spends-concluded NotConfluent c text d W prints two says known none few = λ e. absurd (omega arith)
-spends-concluded Undefined c text d W prints two says known none few = λ e. absurd (omega arith)
+  spends-concluded : (k : Conclusion) (text : Text) → Prints c.given c.keep k c.journal text → number_of_conclusion k ≢ 4
+  spends-concluded (Ended outcome.Finished) text prints = λ e. absurd (omega arith)
+  spends-concluded (Ended outcome.Stuck) text prints = λ e. absurd (omega arith)
+  spends-concluded (Ended (outcome.Budget s)) text prints = λ e. no-budget s text prints
+  spends-concluded (Judged verdict.Run) text prints = λ e. absurd (omega arith)
+  spends-concluded (Judged (verdict.Bad at)) text prints = λ e. absurd (omega arith)
+  spends-concluded Flows text prints = λ e. absurd (omega arith)
+  spends-concluded NotConfluent text prints = λ e. absurd (omega arith)
+  spends-concluded Undefined text prints = λ e. absurd (omega arith)
 
-spends : (s : Status Conclusion) (c : Call) (d : Command) (W : Parts) → Holds (program c) c.left s → 2 ≤ length c.given.stored.orders → Says c.given.words d → RunsKnown d c.given W → HasNoRevive W
-    → ops_in W ≤ steps_for d → number_of number_of_conclusion s ≢ 4
-spends (Concluded k) c d W h two says known none few = spends-concluded k c h.text d W h.prints two says known none few
-spends (Stopped BadWords) c d W h two says known none few = λ e. absurd (omega arith)
-spends (Stopped (BadLine line w)) c d W h two says known none few = λ e. absurd (omega arith)
-spends (Stopped CannotRead) c d W h two says known none few = λ e. absurd (omega arith)
-spends (Stopped OutOfMemory) c d W h two says known none few = λ e. absurd (omega arith)
-spends CannotWrite c d W h two says known none few = λ e. absurd (omega arith)
+  spends : (s : Status Conclusion) → Holds (program c) c.left s → number_of number_of_conclusion s ≢ 4
+  spends (Concluded k) h = spends-concluded k h.text h.prints
+  spends (Stopped BadWords) h = λ e. absurd (omega arith)
+  spends (Stopped (BadLine line w)) h = λ e. absurd (omega arith)
+  spends (Stopped CannotRead) h = λ e. absurd (omega arith)
+  spends (Stopped OutOfMemory) h = λ e. absurd (omega arith)
+  spends CannotWrite h = λ e. absurd (omega arith)
 
 -- a text that is no workload's is refused
 refuses : (s : Status Conclusion) (c : Call) (d : Command) (file : Text) → Holds (program c) c.left s → Says c.given.words d → workload_file d ≡ Some file
-    → Tells c.given file (λ bytes. (W : Parts) → Reads bytes W → ⊥) → (Grew c.left.read_faults → ⊥) → (number_of number_of_conclusion s ≡ 3) ⊎ (number_of number_of_conclusion s ≡ 7)
-refuses (Concluded k) c d file h says names tells still =
-    let read = printed-reads c.given c.journal h.text d file says names k h.prints in
+    → Tells c.given file (λ bytes. (W : Parts) → Reads bytes W → ⊥) → (AsksBeyond c.given → ⊥) → (Grew c.left.read_faults → ⊥) → (number_of number_of_conclusion s ≡ 3) ⊎ (number_of number_of_conclusion s ≡ 7)
+refuses (Concluded k) c d file h says names tells within still =
+    let read = printed-reads c.given c.keep c.journal h.text d file says names k h.prints in
     absurd (not-read c.given file read.0 tells read.1)
-refuses (Stopped BadWords) c d file h says names tells still = absurd (h.cause.why d says)
-refuses (Stopped (BadLine line w)) c d file h says names tells still = inl refl
-refuses (Stopped CannotRead) c d file h says names tells still = absurd (still h.cause.why.1)
-refuses (Stopped OutOfMemory) c d file h says names tells still = inr refl
-refuses CannotWrite c d file h says names tells still =
-    let read = printed-reads c.given c.journal h.text d file says names h.conclusion h.prints in
+refuses (Stopped BadWords) c d file h says names tells within still = absurd (not-bad-words c.given d says within h.cause.why)
+refuses (Stopped (BadLine line w)) c d file h says names tells within still = inl refl
+refuses (Stopped CannotRead) c d file h says names tells within still = absurd (still h.cause.why.1)
+refuses (Stopped OutOfMemory) c d file h says names tells within still = inr refl
+refuses CannotWrite c d file h says names tells within still =
+    let read = printed-reads c.given c.keep c.journal h.text d file says names h.conclusion h.prints in
     absurd (not-read c.given file read.0 tells read.1)
 
 -- and one that is no journal's
 refuses-journal : (s : Status Conclusion) (c : Call) (w j : Text) → Holds (program c) c.left s → Says c.given.words (command.Check w j)
     → Tells c.given j (λ bytes. (J : List Event) → IsTextOf J bytes → ⊥) → (Grew c.left.read_faults → ⊥) → (number_of number_of_conclusion s ≡ 3) ⊎ (number_of number_of_conclusion s ≡ 7)
 refuses-journal (Concluded k) c w j h says tells still =
-    let has = printed-verdict c.given c.journal h.text w j says k h.prints in
-    absurd (not-journal c.given j has.1.journal tells (compared-journal c.given c.journal [] w j says has.1.workload (IsTextOf has.1.journal) has.1.compares).1)
-refuses-journal (Stopped BadWords) c w j h says tells still = absurd (h.cause.why _ says)
+    let has = printed-verdict c.given c.keep c.journal h.text w j says k h.prints in
+    absurd (not-journal c.given j has.1.journal tells (compared-journal c.given c.keep c.journal [] w j says has.1.workload (IsTextOf has.1.journal) has.1.compares).1)
+refuses-journal (Stopped BadWords) c w j h says tells still = absurd (not-bad-words c.given _ says (check-asks-none c.given w j says) h.cause.why)
 refuses-journal (Stopped (BadLine line wrong)) c w j h says tells still = inl refl
 refuses-journal (Stopped CannotRead) c w j h says tells still = absurd (still h.cause.why.1)
 refuses-journal (Stopped OutOfMemory) c w j h says tells still = inr refl
 refuses-journal CannotWrite c w j h says tells still =
-    let has = printed-verdict c.given c.journal h.text w j says h.conclusion h.prints in
-    absurd (not-journal c.given j has.1.journal tells (compared-journal c.given c.journal [] w j says has.1.workload (IsTextOf has.1.journal) has.1.compares).1)
+    let has = printed-verdict c.given c.keep c.journal h.text w j says h.conclusion h.prints in
+    absurd (not-journal c.given j has.1.journal tells (compared-journal c.given c.keep c.journal [] w j says has.1.workload (IsTextOf has.1.journal) has.1.compares).1)
 
 -- words that say no command are refused
 refuses-words : (s : Status Conclusion) (c : Call) → Holds (program c) c.left s → SaysNothing c.given.words → (number_of number_of_conclusion s ≡ 2) ⊎ (number_of number_of_conclusion s ≡ 7)
-refuses-words (Concluded k) c h none = let said = printed-says c.given c.journal h.text k h.prints in absurd (none said.0 said.1)
+refuses-words (Concluded k) c h none = let said = printed-says c.given c.keep c.journal h.text k h.prints in absurd (none said.0 said.1)
 refuses-words (Stopped BadWords) c h none = inl refl
 refuses-words (Stopped (BadLine line (Workload f))) c h none = absurd (none h.cause.why.named.command h.cause.why.named.says)
 refuses-words (Stopped (BadLine line Journal)) c h none = absurd (none _ h.cause.why.1.says)
 refuses-words (Stopped (BadLine line Lives)) c h none = absurd h.cause.why
 refuses-words (Stopped CannotRead) c h none = absurd (none h.cause.why.0.command h.cause.why.0.says)
 refuses-words (Stopped OutOfMemory) c h none = inr refl
-refuses-words CannotWrite c h none = let said = printed-says c.given c.journal h.text h.conclusion h.prints in absurd (none said.0 said.1)
+refuses-words CannotWrite c h none = let said = printed-says c.given c.keep c.journal h.text h.conclusion h.prints in absurd (none said.0 said.1)
 
 -- Faults.
 
@@ -384,18 +391,19 @@ none-concludes n high NotConfluent = λ e. absurd (omega arith)
 none-concludes n high Undefined = λ e. absurd (omega arith)
 
 -- a call that ended with this exit status is answered
-pub answered : (n : ℕ) (c : Call) → 2 ≤ length c.given.stored.orders → EndsBy (program c) c.left n → MissesFiles n c → MissesJournals n c → (HasReadFault c.left → (n ≡ 5) ⊎ (n ≡ 7)) → IsAnswered n c
-answered n c two ends absent missing faulty = by ends.0 ends.1 ends.2 where
+pub answered : (n : ℕ) (c : Call) → 2 ≤ length c.given.stored.orders → EndsBy (program c) c.left n → MissesFiles n c → MissesJournals n c → RefusesSteps n c → (HasReadFault c.left → (n ≡ 5) ⊎ (n ≡ 7)) → IsAnswered n c
+answered n c two ends absent missing exceeds faulty = by ends.0 ends.1 ends.2 where
   by : (s : Status Conclusion) → n ≡ number_of number_of_conclusion s → Holds (program c) c.left s → IsAnswered n c
   by s is h = subst (λ m. IsAnswered m c) (sym is) (record {
     cause = (s, refl, h);
-    complete = λ d W says known still. runs s c d W h says known still;
+    complete = λ d W says known within still. runs s c d W h says known within still;
     checks = λ w j W J says tells also still. checks c w j W J says tells also s h still;
     flows = λ file W says tells still. flows c file W says tells s h still;
-    texts = λ d file says names tells still. refuses s c d file h says names tells still;
+    texts = λ d file says names tells within still. refuses s c d file h says names tells within still;
     journals = λ w j W says tells also still. refuses-journal s c w j h says also still;
     words = refuses-words s c h;
-    spends = λ d W says known none few. spends s c d W h two says known none few;
+    steps = subst (λ m. RefusesSteps m c) is exceeds;
+    spends = λ d W steps says known may none few. spends c d W steps two says known may none few s h;
     absent = subst (λ m. MissesFiles m c) is absent;
     missing = subst (λ m. MissesJournals m c) is missing;
     reads = reads-well (program c) c.left (none-concludes 5 (omega arith)) (λ cause. cause.why.1) s h;

@@ -1,5 +1,6 @@
 -- From what is known of one file to what is known of a call.
-use Rattle.std.proofs.Common.{◌≡◌, ◌∙◌, ◌<◌, ◌≤◌, ℕ, List, length, map, Option, Some, None, ap, refl, subst, sym, arith}
+use Rattle.std.proofs.Common.{◌≡◌, ◌∙◌, ◌<◌, ◌≤◌, ℕ, Bool, List, length, map, Option, Some, None, inr, ap, refl, subst, sym, arith}
+use Rattle.std.specs.Prelude.{⊤}
 use Rattle.std.proofs.lemmas.List.{length-map}
 use Rattle.abt_machine.specs.declared.events.Event.{Event}
 use Rattle.abt_machine.specs.declared.events.Outcome.{Outcome}
@@ -14,10 +15,12 @@ use Rattle.abt_shell.specs.Fetched.{HasNoJournal, IsNoJournalLine}
 use Rattle.abt_shell.specs.declared.status.Stop.{Stop}
 use Rattle.abt_shell.specs.declared.status.Wrong.{Wrong}
 use Rattle.abt_shell.specs.declared.status.Wrong.TheVariants.{Workload, Journal, Lives}
-use Rattle.abt_shell.proofs.Fetched.{grew-later, stops-file}
-use Rattle.abt_run.specs.Given.{Given, IsReadFrom, NamesFile, SaysNothing, workload_file}
-use Rattle.abt_run.specs.Prepared.{HasNoWorkload, IsBadLine, IsNoWorkload, StopsCommand}
+use Rattle.abt_shell.proofs.Fetched.{grew-later, stops-file, stops-more}
+use Rattle.abt_run.specs.Given.{Given, IsReadFrom, NamesFile, workload_file}
+use Rattle.abt_run.specs.Prepared.{HasNoRun, HasNoWorkload, IsBadCommand, IsBadLine, IsNoWorkload, StopsCommand}
 use Rattle.abt_run.specs.Printed.{Prints, Ran}
+use Rattle.abt_run.specs.declared.keeping.Keep.{Keep}
+use Rattle.abt_run.specs.Steps.{Exceeds}
 use Rattle.abt_run.specs.declared.status.Conclusion.{Conclusion}
 use Rattle.abt_run.specs.declared.status.Conclusion.TheVariants.{Ended}
 
@@ -39,9 +42,23 @@ no-file words d e f one two names none = none-is f (sym none ∙ (ap workload_fi
 
 -- why a file has no workload is why the call stops
 pub no-workload-stops : (s : Stop) (g : Given) (d : Command) (file : Text) (faults : ℕ × ℕ) → Says g.words d → workload_file d ≡ Some file → HasNoWorkload (g.file file) faults s → StopsCommand g faults s
-no-workload-stops s g d file faults says names = stops-file (SaysNothing g.words) (NamesFile g.words) (IsNoWorkload (g.file file)) (IsBadLine g) faults faults named bad (λ grew. grew) s where
+no-workload-stops s g d file faults says names = stops-file (IsBadCommand g) (NamesFile g.words) (IsNoWorkload (g.file file)) (IsBadLine g) faults faults named bad (λ grew. grew) s where
   named : NamesFile g.words
   named = record { command = d; file = file; says = says; names = names }
+
+  bad : (line : ℕ) (w : Wrong) → IsNoWorkload (g.file file) line w → IsBadLine g line w
+  bad line (Workload f) h = record { named = named; is = h }
+  bad line Journal h = absurd h
+  bad line Lives h = absurd h
+
+-- and so is why its workload is not run
+pub no-run-stops : (s : Stop) (g : Given) (file : Text) (asked : Option ℕ) (journal : Bool) (faults : ℕ × ℕ) → Says g.words (command.Run file asked journal) → HasNoRun (g.file file) asked faults s → StopsCommand g faults s
+no-run-stops s g file asked journal faults says = stops-more (Exceeds (g.file file) asked) (IsBadCommand g) ⊤ (NamesFile g.words) (IsNoWorkload (g.file file)) (IsBadLine g) faults faults beyond (λ known. named) bad (λ grew. grew) s where
+  beyond : Exceeds (g.file file) asked → IsBadCommand g
+  beyond exceeds = inr (record { file = file; asked = asked; journal = journal; says = says; exceeds = exceeds })
+
+  named : NamesFile g.words
+  named = record { command = command.Run file asked journal; file = file; says = says; names = refl }
 
   bad : (line : ℕ) (w : Wrong) → IsNoWorkload (g.file file) line w → IsBadLine g line w
   bad line (Workload f) h = record { named = named; is = h }
@@ -52,7 +69,7 @@ no-workload-stops s g d file faults says names = stops-file (SaysNothing g.words
 pub no-journal-stops : (s : Stop) (g : Given) (w j : Text) (W : Parts) (told : Option Text) (a b c : ℕ) → Says g.words (command.Check w j) → IsReadFrom g w W → told ≡ g.file j
     → a ≤ b → b ≤ c → HasNoJournal told (b, c) s → StopsCommand g (a, c) s
 no-journal-stops s g w j W told a b c says reads same first second =
-    stops-file (SaysNothing g.words) (NamesFile g.words) (IsNoJournalLine told) (IsBadLine g) (b, c) (a, c) (record { command = command.Check w j; file = w; says = says; names = refl }) bad (grew-later a b c first second) s where
+    stops-file (IsBadCommand g) (NamesFile g.words) (IsNoJournalLine told) (IsBadLine g) (b, c) (a, c) (record { command = command.Check w j; file = w; says = says; names = refl }) bad (grew-later a b c first second) s where
       bad : (line : ℕ) (wrong : Wrong) → IsNoJournalLine told line wrong → IsBadLine g line wrong
       bad line (Workload f) h = absurd h
       bad line Journal h = (W, record { workload = w; journal = j; says = says; reads = reads; is = subst (λ (o : Option Text). IsNoJournalLine o line Journal) same h })
@@ -68,6 +85,6 @@ pub as-many : {A B : Type 0} (f : A → B) (xs : List A) (n : ℕ) → n ≤ len
 as-many f xs n h = let e : length (map f xs) ≡ length xs = simp length-map in omega arith
 
 -- what is printed of a run that ended so
-pub prints-as : (o : Outcome) (g : Given) (c : Conclusion) (J K : List Event) (text printed : Text) → c ≡ Ended o → K ≡ J → printed ≡ text → Ran g J o text → Prints g c K printed
-prints-as o g c J K text printed concludes same equal ran =
-    subst (λ (k : Conclusion). Prints g k K printed) (sym concludes) (subst (λ (L : List Event). Ran g L o printed) (sym same) (subst (Ran g J o) (sym equal) ran))
+pub prints-as : (o : Outcome) (g : Given) (keep : Keep) (c : Conclusion) (J K : Option (List Event)) (text printed : Text) → c ≡ Ended o → K ≡ J → printed ≡ text → Ran g keep J o text → Prints g keep c K printed
+prints-as o g keep c J K text printed concludes same equal ran =
+    subst (λ (k : Conclusion). Prints g keep k K printed) (sym concludes) (subst (λ (L : Option (List Event)). Ran g keep L o printed) (sym same) (subst (Ran g keep J o) (sym equal) ran))

@@ -19,11 +19,15 @@ use Rattle.abt_machine.specs.Words.{Text}
 use Rattle.abt_bounds.specs.Laws.{IsWritten, what_numbers}
 use Rattle.abt_bounds.proofs.JournalTexts.{journal-texts-differ}
 use Rattle.abt_report.specs.Journals.{HasShortNumbers, IsEvent, IsTextOf}
+use Rattle.abt_shell.specs.declared.status.Stop.{Stop}
+use Rattle.abt_shell.specs.declared.status.Stop.TheVariants.{BadWords, BadLine, CannotRead, OutOfMemory}
+use Rattle.abt_shell.specs.declared.status.Wrong.TheVariants.{Workload, Journal, Lives}
 use Rattle.abt_shell.proofs.Fetched.{of-whole, whole}
 use Rattle.abt_workload.specs.Reading.{IsCause}
 use Rattle.abt_workload.specs.declared.reading.NotRead.{NotRead}
 use Rattle.abt_workload.specs.declared.reading.NotRead.TheVariants as cause
 use Rattle.abt_workload.proofs.Seen.{length-fault, most-bytes}
+use Rattle.abt_run.specs.Prepared.{HasNoWorkload}
 
 -- Workloads.
 
@@ -60,11 +64,19 @@ told-refuses (Some xs) front line f e refuses = elim (cases_lt (text_limit forma
       let all : Refuses xs 0 fault.Limit = record { least = λ above below. absurd (omega arith); first = too-long xs (omega arith) } in
       subst (λ l. Refuses xs l f) (sym is.0) (subst (λ g. Refuses xs 0 g) (sym is.1) all)
 
--- and by the cause that its reader states
-pub told-refused : (told : Option Text) (front : Text) (c : NotRead) (line l : ℕ) (f g : Fault) → IfSome told (λ xs. front ≡ take (suc (text_limit format.Three)) xs) → c ≡ cause.Refused line f → l ≡ line → g ≡ f → IsCause front c → IfSome told (λ xs. Refuses xs l g)
-told-refused told front c line l f g e is same equal why =
-    subst (λ k. IfSome told (λ xs. Refuses xs k g)) (sym same)
-    (subst (λ h. IfSome told (λ xs. Refuses xs line h)) (sym equal) (told-refuses told front line f e (subst (IsCause front) is why)))
+-- and stop a call as the prefix does
+pub told-stops : (told : Option Text) (front : Text) (faults : ℕ × ℕ) (s : Stop) → IfSome told (λ xs. front ≡ take (suc (text_limit format.Three)) xs) → HasNoWorkload (Some front) faults s → HasNoWorkload told faults s
+told-stops told front faults BadWords e none = none
+told-stops told front faults (BadLine line (Workload f)) e none = told-refuses told front line f e none
+told-stops told front faults (BadLine line Journal) e none = none
+told-stops told front faults (BadLine line Lives) e none = none
+told-stops told front faults CannotRead e none = none
+told-stops told front faults OutOfMemory e none = none
+
+-- what is refused, by the cause that the reader states
+pub refused-by : (text : Text) (c : NotRead) (line l : ℕ) (f g : Fault) → c ≡ cause.Refused line f → l ≡ line → g ≡ f → IsCause text c → Refuses text l g
+refused-by text c line l f g is same equal why =
+    subst (λ k. Refuses text k g) (sym same) (subst (Refuses text line) (sym equal) (subst (IsCause text) is why))
 
 -- One text, one journal.
 

@@ -1,5 +1,5 @@
 -- What each status says about what a call of the program left, and when it comes.
-use Rattle.std.specs.Prelude.{◌≡◌, ◌≢◌, ◌≤◌, ◌⊎◌, ℕ, List, [], Some}
+use Rattle.std.specs.Prelude.{◌≡◌, ◌≢◌, ◌≤◌, ◌⊎◌, ℕ, Bool, List, Option, Some, None}
 use Rattle.abt_machine.specs.declared.events.Event.{Event}
 use Rattle.abt_machine.specs.declared.events.Piece.{Piece}
 use Rattle.abt_machine.specs.declared.workload.Parts.{Parts}
@@ -19,30 +19,34 @@ use Rattle.abt_words.specs.declared.commands.Command.TheVariants as command
 use Rattle.abt_words.specs.Commands.{Says}
 use Rattle.abt_run.specs.Given.{Given, SaysNothing, Tells, workload_file}
 use Rattle.abt_run.specs.Prepared.{StopsCommand}
-use Rattle.abt_run.specs.Printed.{Prints, steps_for}
+use Rattle.abt_run.specs.Printed.{Prints}
 use Rattle.abt_run.specs.Status.{name, number_of_conclusion}
+use Rattle.abt_run.specs.Steps.{AsksBeyond, ExceedsKnown, MayMake}
+use Rattle.abt_run.specs.declared.keeping.Keep.{Keep}
 use Rattle.abt_run.specs.declared.status.Conclusion.{Conclusion}
 
--- what the call was given, of which names it is observable that no file has them, what it left, and the journal that was returned
+-- what the call was given and what it keeps, of which names it is observable that no file has them, what it left, and the journal that it
+-- answered, if it did
 pub record Call : Type 1 where
   pub given : Given
+  pub keep : Keep
   pub absent : Text → Type 0
   pub left : Left
-  pub journal : List Event
+  pub journal : Option (List Event)
 
 -- What each status says.
 
--- the command is not carried out for this reason, and no journal is returned
+-- the command is not carried out for this reason, and no journal is answered
 pub record IsStopped (c : Call) (stop : Stop) : Type 0 where
   pub why : StopsCommand c.given c.left.read_faults stop
-  pub journal : c.journal ≡ []
+  pub journal : c.journal ≡ None
 
 -- the program, of which each status says what `Wrote`, `WrotePrefix` or `StoppedBy` of abt_shell has
 abbrev pub program : Call → Program Conclusion
 program c = record {
   name = name;
   number = number_of_conclusion;
-  Prints = λ conclusion text. Prints c.given conclusion c.journal text;
+  Prints = λ conclusion text. Prints c.given c.keep conclusion c.journal text;
   Stops = IsStopped c;
 }
 
@@ -59,9 +63,9 @@ RunsKnown (command.Flow file) g W = ⊥
 abbrev pub IsOfRun : ℕ → Type 0
 IsOfRun n = (n ≡ 0) ⊎ ((n ≡ 1) ⊎ (n ≡ 4))
 
--- if a command's workload is known, and no fault comes, it runs
+-- if a command's workload is known, the words do not ask for more steps than its format allows, and no fault comes, it runs
 abbrev pub IsComplete : ℕ → Call → Type 0
-IsComplete n c = (command : Command) (W : Parts) → Says c.given.words command → RunsKnown command c.given W → IsStill c.left → IsOfRun n ⊎ (n ≡ 7)
+IsComplete n c = (command : Command) (W : Parts) → Says c.given.words command → RunsKnown command c.given W → (AsksBeyond c.given → ⊥) → IsStill c.left → IsOfRun n ⊎ (n ≡ 7)
 
 -- the status is 0 if this holds, and 1 if it does not
 abbrev pub Decides : ℕ → Type 0 → Type 0
@@ -77,10 +81,11 @@ abbrev pub FindsFlows : ℕ → Call → Type 0
 FindsFlows n c = (file : Text) (W : Parts) → Says c.given.words (command.Flow file) → Tells c.given file (λ bytes. Reads bytes W) → IsStill c.left
     → Decides n (Confluent W × ((rows : List (List Piece)) × IsFlow W c.given.stored.returns rows)) ⊎ (n ≡ 7)
 
--- if the words name a file whose bytes are observable and are not a workload's text, and no fault of reading comes, the status is 3
+-- if the words name a file whose bytes are observable and are not a workload's text, they do not ask for more steps than its format allows,
+-- and no fault of reading comes, the status is 3
 abbrev pub RefusesTexts : ℕ → Call → Type 0
 RefusesTexts n c = (command : Command) (file : Text) → Says c.given.words command → workload_file command ≡ Some file
-    → Tells c.given file (λ bytes. (W : Parts) → Reads bytes W → ⊥) → (Grew c.left.read_faults → ⊥) → (n ≡ 3) ⊎ (n ≡ 7)
+    → Tells c.given file (λ bytes. (W : Parts) → Reads bytes W → ⊥) → (AsksBeyond c.given → ⊥) → (Grew c.left.read_faults → ⊥) → (n ≡ 3) ⊎ (n ≡ 7)
 
 -- and so it is if a journal's bytes are observable and are not a journal's text
 abbrev pub RefusesJournals : ℕ → Call → Type 0
@@ -100,9 +105,15 @@ MissesJournals n c = (workload journal : Text) (W : Parts) → Says c.given.word
 abbrev pub RefusesWords : ℕ → Call → Type 0
 RefusesWords n c = SaysNothing c.given.words → (n ≡ 2) ⊎ (n ≡ 7)
 
+-- and so they are if they ask for more steps than the format of a file allows whose bytes are observable, and no fault of reading comes
+abbrev pub RefusesSteps : ℕ → Call → Type 0
+RefusesSteps n c = (file : Text) (asked : Option ℕ) (journal : Bool) → Says c.given.words (command.Run file asked journal) → ExceedsKnown (c.given.file file) asked
+    → (Grew c.left.read_faults → ⊥) → (n ≡ 2) ⊎ (n ≡ 7)
+
 -- if each stream may make as many steps as the workload has operations, and none of these revives a unit, no stream uses up its steps
 abbrev pub SpendsNone : ℕ → Call → Type 0
-SpendsNone n c = (command : Command) (W : Parts) → Says c.given.words command → RunsKnown command c.given W → HasNoRevive W → ops_in W ≤ steps_for command → n ≢ 4
+SpendsNone n c = (command : Command) (W : Parts) (steps : ℕ) → Says c.given.words command → RunsKnown command c.given W → MayMake command c.given steps
+    → HasNoRevive W → ops_in W ≤ steps → n ≢ 4
 
 -- the exit status of a call has its cause, and the status comes if its cause holds
 pub record IsAnswered (n : ℕ) (c : Call) : Type 0 where
@@ -113,6 +124,7 @@ pub record IsAnswered (n : ℕ) (c : Call) : Type 0 where
   pub texts : RefusesTexts n c
   pub journals : RefusesJournals n c
   pub words : RefusesWords n c
+  pub steps : RefusesSteps n c
   pub spends : SpendsNone n c
   pub absent : MissesFiles n c
   pub missing : MissesJournals n c

@@ -1,5 +1,7 @@
 pub mod Call
 pub mod Given
+pub mod Kept
 pub mod Prepared
 pub mod Printed
 pub mod Status
+pub mod Steps

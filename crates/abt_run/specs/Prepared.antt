@@ -1,5 +1,5 @@
 -- Why a command is not carried out.
-use Rattle.std.specs.Prelude.{ℕ, ◌≡◌, ◌⊎◌, Option, IfSome}
+use Rattle.std.specs.Prelude.{ℕ, ◌≡◌, ◌⊎◌, ⊤, Option, IfSome}
 use Rattle.abt_machine.specs.declared.workload.Parts.{Parts}
 use Rattle.abt_machine.specs.Grammar.{Refuses}
 use Rattle.abt_machine.specs.Words.{Text}
@@ -10,6 +10,7 @@ use Rattle.abt_shell.specs.declared.status.Stop.TheVariants.{CannotRead}
 use Rattle.abt_shell.specs.declared.status.Wrong.{Wrong}
 use Rattle.abt_shell.specs.declared.status.Wrong.TheVariants.{Workload, Journal, Lives}
 use Rattle.abt_run.specs.Given.{Compares, Given, NamesFile, NamesSuch, SaysNothing}
+use Rattle.abt_run.specs.Steps.{AsksBeyond, Exceeds}
 
 -- a line of a file that the words name has this wrong
 abbrev pub IsBadLine : Given → ℕ → Wrong → Type 0
@@ -17,9 +18,13 @@ IsBadLine g line (Workload f) = NamesSuch g (λ bytes. Refuses bytes line f)
 IsBadLine g line Journal = (W : Parts) × Compares g W (λ bytes. IsNoJournalAt bytes line)
 IsBadLine g line Lives = ⊥
 
+-- the words are not a command, or ask for more steps than a file allows
+abbrev pub IsBadCommand : Given → Type 0
+IsBadCommand g = SaysNothing g.words ⊎ AsksBeyond g
+
 -- by the words, the files, and the count of faults of reading before and afterwards
 abbrev pub StopsCommand : Given → ℕ × ℕ → Stop → Type 0
-StopsCommand g = StopsFor (SaysNothing g.words) (NamesFile g.words) (IsBadLine g)
+StopsCommand g = StopsFor (IsBadCommand g) (NamesFile g.words) (IsBadLine g)
 
 -- One file, by its bytes, if they are observable.
 
@@ -32,6 +37,10 @@ IsNoWorkload told line Lives = ⊥
 -- why the file has no workload
 abbrev pub HasNoWorkload : Option Text → ℕ × ℕ → Stop → Type 0
 HasNoWorkload told = HasNot (IsNoWorkload told)
+
+-- why its workload is not run, if the words ask for this many steps
+abbrev pub HasNoRun : Option Text → Option ℕ → ℕ × ℕ → Stop → Type 0
+HasNoRun told asked = StopsFor (Exceeds told asked) ⊤ (IsNoWorkload told)
 
 -- two files are to be read, of which the first has the workload: the second cannot be read, or the first has no workload
 abbrev pub LacksSecond : Option Text → ℕ × ℕ → Stop → Type 0

@@ -1,10 +1,9 @@
 -- What the command of a call prints, by what it came to.
-use Rattle.std.specs.Prelude.{◌≡◌, ◌<◌, ◌+◌, ◌^◌, ℕ, suc, ◌++◌, if◌then◌else◌, List, [], codes, decimal}
+use Rattle.std.specs.Prelude.{◌≡◌, ◌<◌, ◌+◌, ◌^◌, ℕ, suc, ◌++◌, if◌then◌else◌, Bool, true, List, [], Option, Some, None, codes, decimal}
 use Rattle.abt_machine.specs.declared.events.Event.{Event}
 use Rattle.abt_machine.specs.declared.events.Outcome.{Outcome}
 use Rattle.abt_machine.specs.declared.events.Piece.{Piece}
 use Rattle.abt_machine.specs.declared.workload.Parts.{Parts}
-use Rattle.abt_machine.specs.Limits.{default_steps}
 use Rattle.abt_machine.specs.Outcomes.{steps_in}
 use Rattle.abt_machine.specs.Runs.{last_state}
 use Rattle.abt_machine.specs.State.{State}
@@ -13,27 +12,26 @@ use Rattle.abt_machine.specs.Words.{Text}
 use Rattle.abt_check.specs.declared.verdict.Verdict.{Verdict}
 use Rattle.abt_check.specs.declared.verdict.Verdict.TheVariants as verdict
 use Rattle.abt_check.specs.Verdicts.{IsJudged}
+use Rattle.abt_drain.specs.declared.run.Run.{Run}
 use Rattle.abt_drain.specs.Runs.{HasRun}
 use Rattle.abt_flow.specs.Confluent.{Confluent}
 use Rattle.abt_flow.specs.Flow.{IsFlow}
 use Rattle.abt_generate.specs.Generated.{generated}
 use Rattle.abt_report.specs.Journals.{IsTextOf}
+use Rattle.abt_record.specs.Records.{IsKept}
 use Rattle.abt_report.specs.Outputs.{outputs_text}
+use Rattle.abt_report.specs.Pictures.{IsPictureOf}
 use Rattle.abt_words.specs.declared.commands.Command.{Command}
 use Rattle.abt_words.specs.declared.commands.Command.TheVariants as command
 use Rattle.abt_words.specs.Commands.{Says}
 use Rattle.abt_run.specs.Given.{Compares, Given, IsReadFrom}
+use Rattle.abt_run.specs.Kept.{keeps, prints_journal}
+use Rattle.abt_run.specs.Steps.{MayMake}
+use Rattle.abt_run.specs.declared.keeping.Keep.{Keep}
 use Rattle.abt_run.specs.declared.status.Conclusion.{Conclusion}
 use Rattle.abt_run.specs.declared.status.Conclusion.TheVariants.{Ended, Judged, Flows, NotConfluent, Undefined}
 
 -- Runs.
-
--- how many steps a command lets each stream make
-abbrev pub steps_for : Command → ℕ
-steps_for (command.Run file steps journal) = steps
-steps_for (command.SelfRun units) = default_steps
-steps_for (command.Check workload journal) = 0
-steps_for (command.Flow file) = 0
 
 -- the command runs W: it is read from its file, or made of the number of units
 abbrev pub IsFor : Command → Given → Parts → Type 0
@@ -50,14 +48,24 @@ output_text W S J o (command.SelfRun units) = short_text W S (steps_in J) o
 output_text W S J o (command.Check workload journal) = []
 output_text W S J o (command.Flow file) = []
 
--- J is a run of the workload of the words' command, ended so, and the text is its output
-pub record Ran (g : Given) (J : List Event) (o : Outcome) (text : Text) : Type 0 where
+-- J is the journal of a run that left this, which has it if it is to be printed
+pub record IsShownIn (W : Parts) (prints : Bool) (J : List Event) (left : Run) : Type 0 where
+  pub picture : IsPictureOf W J left.picture
+  pub steps : left.steps ≡ steps_in J
+  pub journal : prints ≡ true → left.journal ≡ Some J
+
+-- the journal is a run of the workload of the words' command, ended so, the text is its output, and the answer has it, if it is kept
+pub record Ran (g : Given) (keep : Keep) (answered : Option (List Event)) (o : Outcome) (text : Text) : Type 0 where
   pub command : Command
   pub says : Says g.words command
   pub workload : Parts
   pub is : IsFor command g workload
-  pub run : HasRun workload g.stored (steps_for command) J o
-  pub output : text ≡ output_text workload (last_state workload J) J o command
+  pub steps : ℕ
+  pub may : MayMake command g steps
+  pub journal : List Event
+  pub run : HasRun workload g.stored steps journal o
+  pub output : text ≡ output_text workload (last_state workload journal) journal o command
+  pub kept : IsKept (keeps keep (prints_journal command)) journal answered
 
 -- Verdicts.
 
@@ -108,10 +116,10 @@ pub record HasNoFlow (g : Given) : Type 0 where
 
 -- All commands.
 
--- the command was carried out and came to this, J is the journal that the call returns, and the command prints the text
-abbrev pub Prints : Given → Conclusion → List Event → Text → Type 0
-Prints g (Ended o) J text = Ran g J o text
-Prints g (Judged v) J text = HasVerdict g v × (text ≡ verdict_text v) × (J ≡ [])
-Prints g Flows J text = HasFlow g text × (J ≡ [])
-Prints g NotConfluent J text = IsNotConfluent g × (text ≡ codes "not confluent\n") × (J ≡ [])
-Prints g Undefined J text = HasNoFlow g × (text ≡ codes "undefined\n") × (J ≡ [])
+-- the command was carried out and came to this, the call answers this journal or none, and the command prints the text
+abbrev pub Prints : Given → Keep → Conclusion → Option (List Event) → Text → Type 0
+Prints g keep (Ended o) answered text = Ran g keep answered o text
+Prints g keep (Judged v) answered text = HasVerdict g v × (text ≡ verdict_text v) × (answered ≡ None)
+Prints g keep Flows answered text = HasFlow g text × (answered ≡ None)
+Prints g keep NotConfluent answered text = IsNotConfluent g × (text ≡ codes "not confluent\n") × (answered ≡ None)
+Prints g keep Undefined answered text = HasNoFlow g × (text ≡ codes "undefined\n") × (answered ≡ None)

@@ -8,12 +8,13 @@ ghost use Rattle.abt_words.specs.Commands.{Says};
 ghost use Rattle.abt_words.specs.declared.commands.Command.TheVariants as command;
 ghost use Rattle.abt_check.specs.declared.verdict.Verdict.TheVariants as verdict;
 ghost use Rattle.abt_run.specs.Given.{given};
+ghost use Rattle.abt_run.specs.declared.keeping.Keep.{Keep};
 ghost use Rattle.abt_run.specs.Prepared.{LacksSecond, StopsCommand};
 ghost use Rattle.abt_run.specs.Printed.{HasShortCount, Prints, verdict_text};
 ghost use Rattle.abt_shell.specs.declared.status.Stop.TheVariants.{CannotRead};
 
 use crate::fetching::fetch;
-use crate::prepared::{Prepared, without_journal};
+use crate::prepared::{Prepared, without_run};
 use crate::status::Conclusion;
 use abt_check::{Verdict, check};
 use abt_lines::{end_line, push_number};
@@ -36,8 +37,8 @@ pub(crate) fn prepare_check<F: Files, P: Work>(
 ) -> Result<Prepared, Stop>
     requires orders { 2 ≤ length orders.now }
     requires calls { function_limit ≤ P.count work.now }
-    ensures done { (words : List Text) → Says words (command.Check workload.now journal.now)
-        → IfOk result (λ p. Prints (given words (stored_of orders.now (P.returns work.now)) (λ name. F.file files.old name)) p.conclusion p.journal p.text.items) }
+    ensures done { (keep : Keep) (words : List Text) → Says words (command.Check workload.now journal.now)
+        → IfOk result (λ p. Prints (given words (stored_of orders.now (P.returns work.now)) (λ name. F.file files.old name)) keep p.conclusion p.journal p.text.items) }
     ensures stop { (words : List Text) → Says words (command.Check workload.now journal.now)
         → IfErr result (StopsCommand (given words (stored_of orders.now (P.returns work.now)) (λ name. F.file files.old name)) (F.faults files.old, F.faults files.new)) }
     ensures absent { F.absent files.old workload.now → IsErrOf result CannotRead }
@@ -50,7 +51,7 @@ pub(crate) fn prepare_check<F: Files, P: Work>(
     w.known();
     let verdict = check(alloc, &w, orders, work, &journal)?;
     let text = text_of(alloc, verdict)?;
-    Ok(without_journal(alloc, text, Conclusion::Judged(verdict)))
+    Ok(without_run(text, Conclusion::Judged(verdict)))
 }
 
 // What is printed for a verdict.

@@ -1,14 +1,16 @@
 //! The workloads of files.
 
-ghost use Rattle.std.specs.Prelude.{◌≡◌, ◌≢◌, ◌≤◌, ℕ, List, IfErr, IfOk, IfSome, IsErrOf};
+ghost use Rattle.std.specs.Prelude.{◌≡◌, ◌≢◌, ◌≤◌, ℕ, List, IfErr, IfOk, IfSome, IsErrAnd, IsErrOf, Some};
 ghost use Rattle.abt_machine.specs.Grammar.{Reads};
-ghost use Rattle.abt_run.specs.Prepared.{HasNoWorkload};
+ghost use Rattle.abt_run.specs.Prepared.{HasNoRun, HasNoWorkload};
+ghost use Rattle.abt_run.specs.Steps.{ExceedsKnown, LetsStreams, StopsAtNoLine};
 ghost use Rattle.abt_shell.specs.declared.status.Stop.TheVariants.{CannotRead};
 
 use abt_machine::{Format, Workload};
 use abt_shell::{Stop, Wrong, bytes_of};
 use abt_source::Files;
-use abt_workload::{NotRead, read};
+use abt_words::allowed_steps;
+use abt_workload::{NotRead, format_of, read};
 use std::alloc::Global;
 
 /// The workload of a file.
@@ -26,7 +28,42 @@ pub fn fetch<F: Files>(alloc: Global, file: &str, files: &mut F) -> Result<Workl
     ensures later { F.faults files.old ≤ F.faults files.new }
 {
     let bytes = bytes_of(alloc, file, files, Format::Three.text_limit())?;
-    match read(alloc, &bytes) {
+    workload_in(alloc, &bytes)
+}
+
+/// The workload of a file, and how many steps each of its streams may make, if the words ask for this many, or for none.
+///
+/// # Errors
+///
+/// `BadWords` if the format of the text allows fewer; then the text is not read further. Otherwise as `fetch`.
+pub(crate) fn fetch_run<F: Files>(
+    alloc: Global,
+    file: &str,
+    asked: Option<u64>,
+    files: &mut F,
+) -> Result<(Workload, u64), Stop>
+    ensures reads { IfOk result (λ found. IfSome (F.file files.old file.now) (λ bytes. Reads bytes found.0)) }
+    ensures steps { IfOk result (λ found. LetsStreams (F.file files.old file.now) asked found.1) }
+    ensures stop { IfErr result (HasNoRun (F.file files.old file.now) asked (F.faults files.old, F.faults files.new)) }
+    ensures exceeds { ExceedsKnown (F.file files.old file.now) asked → IsErrAnd result (StopsAtNoLine (F.faults files.old, F.faults files.new)) }
+    ensures absent { F.absent files.old file.now → IsErrOf result CannotRead }
+    ensures faulty { F.faults files.new ≢ F.faults files.old → IsErrOf result CannotRead }
+    ensures later { F.faults files.old ≤ F.faults files.new }
+{
+    let bytes = bytes_of(alloc, file, files, Format::Three.text_limit())?;
+    let Some(steps) = allowed_steps(format_of(&bytes), asked) else {
+        return Err(Stop::BadWords);
+    };
+    let w = workload_in(alloc, &bytes)?;
+    Ok((w, steps))
+}
+
+// The workload whose text these bytes are.
+fn workload_in(alloc: Global, bytes: &[u8]) -> Result<Workload, Stop>
+    ensures reads { IfOk result (Reads bytes.now) }
+    ensures stop { IfErr result (λ stop. (faults : ℕ × ℕ) → HasNoWorkload (Some bytes.now) faults stop) }
+{
+    match read(alloc, bytes) {
         Ok(w) => Ok(w),
         Err(NotRead::Refused { line, fault }) => Err(Stop::BadLine(line, Wrong::Workload(fault))),
         Err(NotRead::Memory) => Err(Stop::OutOfMemory),

@@ -7,12 +7,13 @@ ghost use Rattle.abt_machine.specs.Words.{Text};
 ghost use Rattle.abt_words.specs.Commands.{Says};
 ghost use Rattle.abt_words.specs.declared.commands.Command.TheVariants as command;
 ghost use Rattle.abt_run.specs.Given.{given};
+ghost use Rattle.abt_run.specs.declared.keeping.Keep.{Keep};
 ghost use Rattle.abt_run.specs.Prepared.{StopsCommand};
 ghost use Rattle.abt_run.specs.Printed.{Prints};
 ghost use Rattle.abt_shell.specs.declared.status.Stop.TheVariants.{CannotRead};
 
 use crate::fetching::fetch;
-use crate::prepared::{Prepared, without_journal};
+use crate::prepared::{Prepared, without_run};
 use crate::status::Conclusion;
 use abt_flow::{confluent, find_flow};
 use abt_report::outputs_text;
@@ -30,8 +31,8 @@ pub(crate) fn prepare_flow<F: Files, P: Work>(
     work: &P,
 ) -> Result<Prepared, Stop>
     requires calls { function_limit ≤ P.count work.now }
-    ensures done { (words : List Text) (stored : Stored) → stored.returns ≡ P.returns work.now → Says words (command.Flow file.now)
-        → IfOk result (λ p. Prints (given words stored (λ name. F.file files.old name)) p.conclusion p.journal p.text.items) }
+    ensures done { (keep : Keep) (words : List Text) (stored : Stored) → stored.returns ≡ P.returns work.now → Says words (command.Flow file.now)
+        → IfOk result (λ p. Prints (given words stored (λ name. F.file files.old name)) keep p.conclusion p.journal p.text.items) }
     ensures stop { (words : List Text) (stored : Stored) → stored.returns ≡ P.returns work.now → Says words (command.Flow file.now)
         → IfErr result (StopsCommand (given words stored (λ name. F.file files.old name)) (F.faults files.old, F.faults files.new)) }
     ensures absent { F.absent files.old file.now → IsErrOf result CannotRead }
@@ -41,17 +42,17 @@ pub(crate) fn prepare_flow<F: Files, P: Work>(
     let w = fetch(alloc, file, files)?;
     if !confluent(alloc, &w)? {
         let text = Vec::from_slice(alloc, b"not confluent\n")?;
-        return Ok(without_journal(alloc, text, Conclusion::NotConfluent));
+        return Ok(without_run(text, Conclusion::NotConfluent));
     }
     w.known();
     match find_flow(alloc, &w, work)? {
         Some(flow) => {
             let text = outputs_text(alloc, &w, flow.items())?;
-            Ok(without_journal(alloc, text, Conclusion::Flows))
+            Ok(without_run(text, Conclusion::Flows))
         }
         None => {
             let text = Vec::from_slice(alloc, b"undefined\n")?;
-            Ok(without_journal(alloc, text, Conclusion::Undefined))
+            Ok(without_run(text, Conclusion::Undefined))
         }
     }
 }

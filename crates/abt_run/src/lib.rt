@@ -4,11 +4,13 @@
 mod checking;
 mod fetching;
 mod following;
+mod keeping;
 mod prepared;
 mod program;
 mod running;
 mod status;
 
 pub use fetching::fetch;
-pub use program::abtrun;
+pub use keeping::Keep;
+pub use program::{Answer, abtrun};
 pub use status::{Conclusion, NAME};

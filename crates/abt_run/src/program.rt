@@ -1,33 +1,42 @@
 //! The top call.
 
-ghost use Rattle.std.specs.Prelude.{◌≡◌, ◌≢◌, ◌≤◌, ◌⊎◌, IfErr, IfOk, IsErrAnd, IsErrOf, Some, length, map, string_bytes};
+ghost use Rattle.std.specs.Prelude.{◌≡◌, ◌≢◌, ◌≤◌, ◌⊎◌, ℕ, Bool, Option, IfErr, IfOk, IsErrAnd, IsErrOf, Some, length, map, string_bytes};
 ghost use Rattle.abt_machine.specs.Limits.{function_limit};
 ghost use Rattle.abt_machine.specs.Words.{Text};
 ghost use Rattle.abt_order.specs.Stored.{stored_of};
 ghost use Rattle.abt_words.specs.Commands.{Says};
 ghost use Rattle.abt_words.specs.declared.commands.Command.{Command};
-ghost use Rattle.abt_words.specs.declared.commands.Command.TheVariants.{Check};
+ghost use Rattle.abt_words.specs.declared.commands.Command.TheVariants.{Check, Run};
 ghost use Rattle.abt_run.specs.Call.{IsAnswered};
 ghost use Rattle.abt_run.specs.Given.{given, workload_file};
 ghost use Rattle.abt_run.specs.Prepared.{LacksSecond, StopsCommand};
 ghost use Rattle.abt_run.specs.Printed.{Prints};
+ghost use Rattle.abt_run.specs.Steps.{ExceedsKnown, StopsAtNoLine};
 ghost use Rattle.abt_shell.specs.Calls.{left};
 ghost use Rattle.abt_shell.specs.declared.status.Stop.TheVariants.{CannotRead, OutOfMemory};
 
 use crate::checking::prepare_check;
 use crate::following::prepare_flow;
+use crate::keeping::Keep;
 use crate::prepared::Prepared;
 use crate::running::{prepare_file, prepare_self};
 use crate::status::NAME;
-use abt_machine::Ended;
+use abt_machine::Journal;
 use abt_order::StoredOrder;
-use abt_shell::{Stop, conclude_run, stop_without_run};
+use abt_shell::{Stop, stop_by, write_out};
 use abt_source::{Files, Sink};
 use abt_words::{Command, WordFault, words as command};
 use abt_work::Work;
 use std::alloc::Global;
 use std::sync::Wait;
 use std::thread::Threads;
+
+/// How a call ended: its exit status, and the journal of its run, if it made one and kept it.
+#[derive(Drop)]
+pub struct Answer {
+    pub status: u8,
+    pub journal: Option<Journal>,
+}
 
 // All of a call but its writes.
 fn prepare<R: Threads + Wait + Sync, F: Files, P: Work + Sync>(
@@ -37,15 +46,18 @@ fn prepare<R: Threads + Wait + Sync, F: Files, P: Work + Sync>(
     files: &mut F,
     work: &P,
     orders: &[StoredOrder],
+    keep: Keep,
 ) -> Result<Prepared, Stop>
     requires orders { 2 ≤ length orders.now }
     requires calls { function_limit ≤ P.count work.now }
-    ensures done { IfOk result (λ p. Prints (given (map string_bytes words.now) (stored_of orders.now (P.returns work.now)) (λ name. F.file files.old name)) p.conclusion p.journal p.text.items) }
+    ensures done { IfOk result (λ p. Prints (given (map string_bytes words.now) (stored_of orders.now (P.returns work.now)) (λ name. F.file files.old name)) keep p.conclusion p.journal p.text.items) }
     ensures stop { IfErr result (StopsCommand (given (map string_bytes words.now) (stored_of orders.now (P.returns work.now)) (λ name. F.file files.old name)) (F.faults files.old, F.faults files.new)) }
     ensures absent { (command : Command) (file : Text) → Says (map string_bytes words.now) command → workload_file command ≡ Some file → F.absent files.old file
         → IsErrOf result CannotRead ⊎ IsErrOf result OutOfMemory }
     ensures missing { (workload journal : Text) → Says (map string_bytes words.now) (Check workload journal) → F.absent files.old journal
         → IsErrAnd result (LacksSecond (F.file files.old workload) (F.faults files.old, F.faults files.new)) }
+    ensures exceeds { (file : Text) (asked : Option ℕ) (journal : Bool) → Says (map string_bytes words.now) (Run file asked journal) → ExceedsKnown (F.file files.old file) asked
+        → IsErrAnd result (StopsAtNoLine (F.faults files.old, F.faults files.new)) }
     ensures faulty { F.faults files.new ≢ F.faults files.old → IsErrOf result CannotRead }
     ensures later { F.faults files.old ≤ F.faults files.new }
 {
@@ -66,9 +78,10 @@ fn prepare<R: Threads + Wait + Sync, F: Files, P: Work + Sync>(
                 files,
                 work,
                 orders,
+                keep,
             )
         }
-        Ok(Command::SelfRun { units }) => prepare_self(rt, alloc, units, work, orders),
+        Ok(Command::SelfRun { units }) => prepare_self(rt, alloc, units, work, orders, keep),
         Ok(Command::Check { workload, journal }) => {
             prepare_check(
                 alloc,
@@ -94,10 +107,10 @@ fn prepare<R: Threads + Wait + Sync, F: Files, P: Work + Sync>(
 /// Each stream runs on a thread of its own, as far as threads can be started; `work` is called before each step and has the
 /// functions that units call, all outside every lock.
 ///
-/// Exit statuses: 0 finished, 1 stuck, 2 bad command line, 3 a file is refused, 4 a stream made all the steps that it may
-/// make, 5 cannot read, 6 cannot write, 7 out of memory; `check` ends with 0 if the journal is a run and with 1 if it is not, and
-/// `flow` with 0 if there is a flow and with 1 if there is none. The journal that is returned is that of the run that was made,
-/// and otherwise empty.
+/// Exit statuses: 0 finished, 1 stuck, 2 bad command line, also if it asks for more steps than the format of the file allows, 3 a file
+/// is refused, 4 a stream made all the steps that it may make, 5 cannot read, 6 cannot write, 7 out of memory; `check` ends with 0 if
+/// the journal is a run and with 1 if it is not, and `flow` with 0 if there is a flow and with 1 if there is none. The answer has the
+/// journal of the run that was made, if `keep` asks for it, and otherwise none.
 pub fn abtrun<R: Threads + Wait + Sync, F: Files, K: Sink, E: Sink, P: Work + Sync>(
     rt: &R,
     alloc: Global,
@@ -107,25 +120,34 @@ pub fn abtrun<R: Threads + Wait + Sync, F: Files, K: Sink, E: Sink, P: Work + Sy
     err: &mut E,
     work: &P,
     orders: &[StoredOrder],
-) -> Ended
+    keep: Keep,
+) -> Answer
     requires orders { 2 ≤ length orders.now }
     requires calls { function_limit ≤ P.count work.now }
     ensures { IsAnswered result.status (record {
       given = given (map string_bytes words.now) (stored_of orders.now (P.returns work.now)) (λ name. F.file files.old name);
+      keep = keep;
       absent = λ name. F.absent files.old name;
       left = left (F.faults files.old, F.faults files.new) (K.taken out.old, K.taken out.new) (K.faults out.old, K.faults out.new) (E.taken err.old, E.taken err.new) (E.faults err.old, E.faults err.new);
       journal = result.journal;
     }) }
 {
-    match prepare(rt, alloc, words, files, work, orders) {
+    match prepare(rt, alloc, words, files, work, orders, keep) {
         Ok(done) => {
             let Prepared {
                 conclusion,
                 journal,
                 text,
             } = done;
-            conclude_run(NAME, out, err, &text, conclusion.number(), journal)
+            let status = write_out(NAME, out, err, &text, conclusion.number());
+            Answer { status, journal }
         }
-        Err(stop) => stop_without_run(alloc, NAME, err, stop),
+        Err(stop) => {
+            let why = stop_by(alloc, NAME, err, stop);
+            Answer {
+                status: why.number(),
+                journal: None,
+            }
+        }
     }
 }

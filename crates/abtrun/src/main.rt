@@ -3,7 +3,7 @@
 
 use abt_functions::TextFunctions;
 use abt_order::StoredOrder;
-use abt_run::{NAME, abtrun};
+use abt_run::{Keep, NAME, abtrun};
 use abt_shell::run;
 use abt_source::{RealFiles, RealSink};
 use std::process::ExitCode;
@@ -12,7 +12,7 @@ fn main(rt: HostRuntime) -> ExitCode {
     // Order 0 rotates, and order 1 mirrors.
     let orders = [StoredOrder::rotating(), StoredOrder::mirroring()];
     run(&rt, NAME, |words| {
-        let ended = abtrun(
+        let answer = abtrun(
             &rt,
             rt.alloc(),
             words,
@@ -21,7 +21,8 @@ fn main(rt: HostRuntime) -> ExitCode {
             &mut RealSink::err(&rt),
             &TextFunctions,
             &orders,
+            Keep::IfPrinted,
         );
-        ended.status
+        answer.status
     })
 }

@@ -1,11 +1,17 @@
-use Rattle.abt_run.proofs.Texts.{told-reads, told-refused}
+use Rattle.std.proofs.Common.{ℕ, Some}
+use Rattle.std.specs.Prelude.{IfSome}
+use Rattle.abt_machine.specs.Grammar.{Reads}
+use Rattle.abt_shell.proofs.Calls.{if-err, if-ok}
+use Rattle.abt_run.specs.Prepared.{HasNoWorkload}
+use Rattle.abt_run.proofs.Texts.{told-reads, told-stops}
 use Rattle.abt_run.proofs.fetching.fetch.Goals as goal
 
-pub returns-in-Ok-clause-reads : goal.returns-in-Ok-clause-reads
-returns-in-Ok-clause-reads g c =
-    told-reads (g.F.Files.file c.args.files.now c.args.file.now) c.in_ok-bytes.bytes.items c.in-Ok.w (rw c.text_limit.ensures at c.in_ok-bytes.ensures.bytes) (rw c.deref.ensures.value at c.in-Ok.ensures.ok)
+pub returns-clause-reads : goal.returns-clause-reads
+returns-clause-reads g c =
+    if-ok c.workload_in.result (Reads c.in_ok-bytes.bytes.items) (λ w. IfSome (g.F.Files.file c.args.files.now c.args.file.now) (λ bytes. Reads bytes w))
+    (λ w reads. told-reads _ c.in_ok-bytes.bytes.items w (rw c.text_limit.ensures at c.in_ok-bytes.ensures.bytes) reads) (rw c.deref.ensures.value at c.workload_in.ensures.reads)
 
-pub returns-in-Err-Refused-clause-stop : goal.returns-in-Err-Refused-clause-stop
-returns-in-Err-Refused-clause-stop g c =
-    told-refused (g.F.Files.file c.args.files.now c.args.file.now) c.in_ok-bytes.bytes.items c.in-Err-Refused.field-0 c.in-Err-Refused.line _ c.in-Err-Refused.fault _ (rw c.text_limit.ensures at c.in_ok-bytes.ensures.bytes)
-    c.in-Err-Refused.field-0-is c.in-Err-Refused.line-is c.in-Err-Refused.fault-is (rw c.deref.ensures.value at c.in-Err-Refused.ensures.refused)
+pub returns-clause-stop : goal.returns-clause-stop
+returns-clause-stop g c =
+    if-err c.workload_in.result (λ stop. (faults : ℕ × ℕ) → HasNoWorkload (Some c.in_ok-bytes.bytes.items) faults stop) (HasNoWorkload (g.F.Files.file c.args.files.now c.args.file.now) _)
+    (λ stop none. told-stops _ c.in_ok-bytes.bytes.items _ stop (rw c.text_limit.ensures at c.in_ok-bytes.ensures.bytes) (none _)) (rw c.deref.ensures.value at c.workload_in.ensures.stop)

@@ -2,6 +2,7 @@ use Rattle.std.proofs.Common.{◌∙◌, inl, map, refl, string_bytes, subst, sy
 use Rattle.abt_words.specs.declared.commands.Command.TheVariants as command
 use Rattle.abt_words.specs.Commands.{Says}
 use Rattle.abt_run.proofs.Preparing.{no-file, one-file}
+use Rattle.abt_run.proofs.Stepping.{exceeds-same}
 use Rattle.abt_run.proofs.program.prepare.Goals as goal
 
 pub returns-in-Ok-Run-clause-done : goal.returns-in-Ok-Run-clause-done
@@ -20,9 +21,16 @@ pub returns-in-Ok-SelfRun-clause-done : goal.returns-in-Ok-SelfRun-clause-done
 returns-in-Ok-SelfRun-clause-done g c =
     c.prepare_self.ensures.done _ _ (subst (Says (map string_bytes c.args.words.now)) c.in-Ok-SelfRun.field-0-is c.in-Ok-SelfRun.ensures.said)
 
+pub returns-in-Ok-Check-clause-done : goal.returns-in-Ok-Check-clause-done
+returns-in-Ok-Check-clause-done g c =
+    c.prepare_check.ensures.done c.args.keep (map string_bytes c.args.words.now)
+    (subst (λ w. Says (map string_bytes c.args.words.now) (command.Check w c.as_str-in-Ok-Check-2.result.now)) (sym c.as_str-in-Ok-Check.ensures)
+    (subst (λ j. Says (map string_bytes c.args.words.now) (command.Check c.in-Ok-Check.workload j)) (sym c.as_str-in-Ok-Check-2.ensures)
+    (subst (Says (map string_bytes c.args.words.now)) c.in-Ok-Check.field-0-is c.in-Ok-Check.ensures.said)))
+
 pub returns-in-Ok-Flow-clause-done : goal.returns-in-Ok-Flow-clause-done
 returns-in-Ok-Flow-clause-done g c =
-    c.prepare_flow.ensures.done _ _ refl
+    c.prepare_flow.ensures.done c.args.keep _ _ refl
     (subst (λ f. Says (map string_bytes c.args.words.now) (command.Flow f)) (sym c.as_str-in-Ok-Flow.ensures)
     (subst (Says (map string_bytes c.args.words.now)) c.in-Ok-Flow.field-0-is c.in-Ok-Flow.ensures.said))
 
@@ -59,3 +67,20 @@ returns-in-Ok-SelfRun-clause-missing g c = λ workload journal says gone.
 pub returns-in-Ok-Flow-clause-missing : goal.returns-in-Ok-Flow-clause-missing
 returns-in-Ok-Flow-clause-missing g c = λ workload journal says gone.
     (let same = c.in-Ok-Flow.ensures.only (command.Check workload journal) says ∙ c.in-Ok-Flow.field-0-is in absurd (cc))
+
+pub returns-in-Ok-Run-clause-exceeds : goal.returns-in-Ok-Run-clause-exceeds
+returns-in-Ok-Run-clause-exceeds g c = λ file asked journal says known.
+    let same = c.in-Ok-Run.ensures.only (command.Run file asked journal) says ∙ c.in-Ok-Run.field-0-is in
+    c.prepare_file.ensures.exceeds (exceeds-same (λ name. g.F.Files.file c.args.files.now name) file _ _ asked _ journal _ same (sym c.as_str.ensures) known)
+
+pub returns-in-Ok-SelfRun-clause-exceeds : goal.returns-in-Ok-SelfRun-clause-exceeds
+returns-in-Ok-SelfRun-clause-exceeds g c = λ file asked journal says known.
+    (let same = c.in-Ok-SelfRun.ensures.only (command.Run file asked journal) says ∙ c.in-Ok-SelfRun.field-0-is in absurd (cc))
+
+pub returns-in-Ok-Check-clause-exceeds : goal.returns-in-Ok-Check-clause-exceeds
+returns-in-Ok-Check-clause-exceeds g c = λ file asked journal says known.
+    (let same = c.in-Ok-Check.ensures.only (command.Run file asked journal) says ∙ c.in-Ok-Check.field-0-is in absurd (cc))
+
+pub returns-in-Ok-Flow-clause-exceeds : goal.returns-in-Ok-Flow-clause-exceeds
+returns-in-Ok-Flow-clause-exceeds g c = λ file asked journal says known.
+    (let same = c.in-Ok-Flow.ensures.only (command.Run file asked journal) says ∙ c.in-Ok-Flow.field-0-is in absurd (cc))

@@ -1,20 +1,30 @@
-use Rattle.std.proofs.Common.{◌<◌, length, subst, sym}
+use Rattle.std.proofs.Common.{◌<◌, Bool, false, length, refl, subst, sym}
+use Rattle.abt_machine.specs.Limits.{default_steps}
 use Rattle.abt_machine.specs.declared.workload.Parts.{Parts}
 use Rattle.abt_words.specs.declared.commands.Command.TheVariants as command
+use Rattle.abt_record.specs.Records.{IsKept}
+use Rattle.abt_run.proofs.Outputs.{shown-in, some-row}
 use Rattle.abt_run.proofs.Preparing.{prints-as, some-unit}
 use Rattle.abt_run.proofs.running.prepare_self.Goals as goal
 
 pub short_output-requires-clause-unit : goal.short_output-requires-clause-unit
-short_output-requires-clause-unit g c = subst (λ (W : Parts). 0 < length W.units) (sym c.in_ok-w.ensures) (some-unit c.args.units)
+short_output-requires-clause-unit g c =
+    let left = c.in_ok-ran.ensures.run in
+    some-row c.in_ok-w.w left.events c.in_ok-ran.ran left.pictured (subst (λ (W : Parts). 0 < length W.units) (sym c.in_ok-w.ensures) (some-unit c.args.units))
 
 pub returns-clause-done : goal.returns-clause-done
 returns-clause-done g c = λ words file_of says.
-    prints-as c.in_ok-ran.ran.outcome _ c.ended.result.conclusion c.in_ok-ran.ran.journal c.ended.result.journal c.in_ok-text.text.items c.ended.result.text.items
+    let left = c.in_ok-ran.ensures.run in
+    prints-as c.in_ok-ran.ran.outcome _ c.args.keep c.ended.result.conclusion c.in_ok-ran.ran.journal c.ended.result.journal c.in_ok-text.text.items c.ended.result.text.items
     c.ended.ensures.conclusion c.ended.ensures.journal c.ended.ensures.text (record {
       command = command.SelfRun c.args.units;
       says = says;
       workload = c.in_ok-w.w;
       is = c.in_ok-w.ensures;
-      run = c.in_ok-ran.ensures.run;
-      output = c.in_ok-text.ensures c.args.units;
+      steps = default_steps;
+      may = refl;
+      journal = left.events;
+      run = left.holds;
+      output = c.in_ok-text.ensures left.events c.args.units (shown-in c.in_ok-w.w c.args.keep false c.keeps-keeps.result _ c.in_ok-ran.ran c.keeps-keeps.ensures left);
+      kept = subst (λ (b : Bool). IsKept b left.events c.in_ok-ran.ran.journal) c.keeps-keeps.ensures left.kept;
     })

@@ -1,0 +1,129 @@
+-- How many steps each stream may make, by what was read of a file.
+use Rattle.std.proofs.Common.{◌≡◌, ◌⊎◌, ◌<◌, ◌≤◌, ◌∙◌, ℕ, suc, Bool, take, Option, Some, None, inl, inr, refl, sym, ap, subst, arith}
+use Rattle.std.specs.Prelude.{IfSome, ⊤}
+use Rattle.abt_machine.specs.declared.grammar.Format.{Format}
+use Rattle.abt_machine.specs.declared.grammar.Format.TheVariants as format
+use Rattle.abt_machine.specs.declared.workload.Parts.{Parts}
+use Rattle.abt_machine.specs.Grammar.{format_of}
+use Rattle.abt_machine.specs.Limits.{text_limit}
+use Rattle.abt_machine.specs.Spelling.{lines_of}
+use Rattle.abt_machine.specs.Words.{Text}
+use Rattle.abt_shell.specs.Fetched.{Unread}
+use Rattle.abt_shell.specs.Status.{number_of_stop}
+use Rattle.abt_shell.specs.Told.{Grew}
+use Rattle.abt_shell.specs.declared.status.Stop.{Stop}
+use Rattle.abt_shell.specs.declared.status.Stop.TheVariants.{BadWords, BadLine, CannotRead, OutOfMemory}
+use Rattle.abt_shell.proofs.Fetched.{of-observed, stops-more}
+use Rattle.abt_words.specs.declared.commands.Command.{Command}
+use Rattle.abt_words.specs.declared.commands.Command.TheVariants as command
+use Rattle.abt_words.specs.Commands.{Says}
+use Rattle.abt_words.specs.Steps.{AsksTooMany, LetsMake, step_limit_of}
+use Rattle.abt_words.proofs.OneCommand.{one-command}
+use Rattle.abt_run.specs.Call.{RunsKnown}
+use Rattle.abt_run.specs.Given.{Given}
+use Rattle.abt_run.specs.Prepared.{HasNoRun, HasNoWorkload, IsNoWorkload}
+use Rattle.abt_run.specs.Steps.{AsksBeyond, Exceeds, ExceedsKnown, HasFormat, LetsStreams, MayMake, StopsAtNoLine, format_read}
+
+-- Formats.
+
+module _ (told : Option Text) (front now : Text) (e : IfSome told (λ xs. front ≡ take (suc (text_limit format.Three)) xs)) (same : now ≡ front) (f : Format) (is : f ≡ format_of (lines_of now)) where
+  -- the format of the bytes that were read is that of the file
+  told-format : HasFormat told f
+  told-format = by told e
+    where
+      by : (o : Option Text) → IfSome o (λ xs. front ≡ take (suc (text_limit format.Three)) xs) → HasFormat o f
+      by None known = tt
+      by (Some xs) known = is ∙ ap (λ (text : Text). format_of (lines_of text)) (same ∙ known)
+
+  pub told-lets : (asked : Option ℕ) (n : ℕ) → LetsMake f asked n → LetsStreams told asked n
+  told-lets asked n lets = record { format = f; its = told-format; lets = lets }
+
+  pub told-exceeds : (asked : Option ℕ) → AsksTooMany f asked → Exceeds told asked
+  told-exceeds asked many = record { format = f; its = told-format; many = many }
+
+-- a format that is known is one
+module _ (told : Option Text) (bytes : Text) (seen : told ≡ Some bytes) where
+  its-format : (f : Format) → HasFormat told f → f ≡ format_read bytes
+  its-format f its = of-observed (λ text. f ≡ format_read text) told bytes seen its
+
+  one-format : (f g : Format) → HasFormat told f → HasFormat told g → f ≡ g
+  one-format f g one two = its-format f one ∙ sym (its-format g two)
+
+-- Steps.
+
+-- a number that is let is not too great
+let-within : (f : Format) (asked : Option ℕ) (n : ℕ) → LetsMake f asked n → AsksTooMany f asked → ⊥
+let-within f None n lets many = many
+let-within f (Some steps) n lets many = let most : steps ≤ step_limit_of f = lets.1 in let more : step_limit_of f < steps = many in absurd (omega arith)
+
+pub not-exceeded : (told : Option Text) (asked : Option ℕ) (n : ℕ) → LetsStreams told asked n → ExceedsKnown told asked → ⊥
+not-exceeded told asked n lets known =
+    let same : lets.format ≡ format_read known.0 = its-format told known.0 known.1 lets.format lets.its in
+    let-within lets.format asked n lets.lets (subst (λ (f : Format). AsksTooMany f asked) (sym same) known.2)
+
+-- one number is let
+one-number : (f : Format) (asked : Option ℕ) (m n : ℕ) → LetsMake f asked m → LetsMake f asked n → m ≡ n
+one-number f None m n one two = one ∙ sym two
+one-number f (Some steps) m n one two = one.0 ∙ sym two.0
+
+same-number : (told : Option Text) (bytes : Text) (asked : Option ℕ) (m n : ℕ) → told ≡ Some bytes → LetsStreams told asked m → LetsStreams told asked n → m ≡ n
+same-number told bytes asked m n seen one two =
+    let same : one.format ≡ two.format = one-format told bytes seen one.format two.format one.its two.its in
+    one-number two.format asked m n (subst (λ (f : Format). LetsMake f asked m) same one.lets) two.lets
+
+-- a command whose workload is known lets each stream make one number of steps
+pub same-steps : (g : Given) (d : Command) (W : Parts) (m n : ℕ) → RunsKnown d g W → MayMake d g m → MayMake d g n → m ≡ n
+same-steps g (command.Run file asked journal) W m n known one two = same-number (g.file file) known.0 asked m n known.1 one two
+same-steps g (command.SelfRun units) W m n known one two = one ∙ sym two
+same-steps g (command.Check w j) W m n known one two = absurd one
+same-steps g (command.Flow file) W m n known one two = absurd one
+
+-- Commands.
+
+run-file : (e f : Text) (a b : Option ℕ) (j k : Bool) → command.Run e a j ≡ command.Run f b k → e ≡ f
+run-file e f a b j k same = cc
+
+run-asked : (e f : Text) (a b : Option ℕ) (j k : Bool) → command.Run e a j ≡ command.Run f b k → a ≡ b
+run-asked e f a b j k same = cc
+
+-- equal commands ask for the same steps of the same file
+pub exceeds-same : (file_of : Text → Option Text) (e f now : Text) (a b : Option ℕ) (j k : Bool) → command.Run e a j ≡ command.Run f b k → f ≡ now → ExceedsKnown (file_of e) a → ExceedsKnown (file_of now) b
+exceeds-same file_of e f now a b j k same is known =
+    subst (λ (asked : Option ℕ). ExceedsKnown (file_of now) asked) (run-asked e f a b j k same)
+    (subst (λ (name : Text). ExceedsKnown (file_of name) a) (run-file e f a b j k same ∙ is) known)
+
+-- Commands that ask for no steps.
+
+run-is-no-check : (file w j : Text) (asked : Option ℕ) (b : Bool) → command.Run file asked b ≡ command.Check w j → ⊥
+run-is-no-check file w j asked b e = cc
+
+run-is-no-flow : (file f : Text) (asked : Option ℕ) (b : Bool) → command.Run file asked b ≡ command.Flow f → ⊥
+run-is-no-flow file f asked b e = cc
+
+pub check-asks-none : (g : Given) (w j : Text) → Says g.words (command.Check w j) → AsksBeyond g → ⊥
+check-asks-none g w j says beyond = run-is-no-check _ w j _ _ (one-command g.words (command.Run beyond.file beyond.asked beyond.journal) (command.Check w j) beyond.says says)
+
+pub flow-asks-none : (g : Given) (file : Text) → Says g.words (command.Flow file) → AsksBeyond g → ⊥
+flow-asks-none g file says beyond = run-is-no-flow _ file _ _ (one-command g.words (command.Run beyond.file beyond.asked beyond.journal) (command.Flow file) beyond.says says)
+
+-- Reasons to stop.
+
+-- bytes that were not read have no line
+pub unread-no-line : (faults : ℕ × ℕ) (s : Stop) → Unread faults s → StopsAtNoLine faults s
+unread-no-line faults = stops-more ⊥ ⊤ ⊤ ⊤ (λ line w. ⊥) (λ line w. ⊥) faults faults (λ no. tt) (λ known. known) (λ line w no. no) (λ grew. grew)
+
+-- and no run
+pub unread-no-run : (told : Option Text) (asked : Option ℕ) (faults : ℕ × ℕ) (s : Stop) → Unread faults s → HasNoRun told asked faults s
+unread-no-run told asked faults = stops-more ⊥ (Exceeds told asked) ⊤ ⊤ (λ line w. ⊥) (IsNoWorkload told) faults faults (λ no. absurd no) (λ known. known) (λ line w no. absurd no) (λ grew. grew)
+
+-- nor has what is no workload's text
+pub no-workload-no-run : (told : Option Text) (asked : Option ℕ) (faults : ℕ × ℕ) (s : Stop) → HasNoWorkload told faults s → HasNoRun told asked faults s
+no-workload-no-run told asked faults = stops-more ⊥ (Exceeds told asked) ⊤ ⊤ (IsNoWorkload told) (IsNoWorkload told) faults faults (λ no. absurd no) (λ known. known) (λ line w no. no) (λ grew. grew)
+
+-- a call that stopped at no line ends with 2, if no fault of reading came, or with 7
+pub no-line-ends : (n : ℕ) (faults : ℕ × ℕ) (cause stop : Stop) → StopsAtNoLine faults cause → (Grew faults → ⊥) → n ≡ number_of_stop stop → (stop ≡ cause) ⊎ (stop ≡ OutOfMemory) → (n ≡ 2) ⊎ (n ≡ 7)
+no-line-ends n faults cause stop why still is (inr none) = inr (is ∙ ap number_of_stop none)
+no-line-ends n faults BadWords stop why still is (inl same) = inl (is ∙ ap number_of_stop same)
+no-line-ends n faults (BadLine line w) stop why still is (inl same) = absurd why
+no-line-ends n faults CannotRead stop why still is (inl same) = absurd (still why.1)
+no-line-ends n faults OutOfMemory stop why still is (inl same) = inr (is ∙ ap number_of_stop same)
