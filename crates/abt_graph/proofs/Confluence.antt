@@ -58,7 +58,7 @@ module _ (streams : ℕ) (nodes : List Node) where
       let P : Op → Type 0 = λ p. IsSettled (effect p) in
       each-at P (node_ops u found.0) (each-op P u found.0 (each-always (λ (x : UnitNo). P (op.EvWait (object_no x.0))) (λ x. tt) found.0.after) (λ j below. tt) tt tt tt tt) k o found.2
 
-  creates-none : (u k : ℕ) (v : UnitNo) (p : PoolNo) → op_at (workload_of streams nodes) u k ≡ Some (op.Create v p) → ⊥
+  pub creates-none : (u k : ℕ) (v : UnitNo) (p : PoolNo) → op_at (workload_of streams nodes) u k ≡ Some (op.Create v p) → ⊥
   creates-none u k v p is =
       let found = op-of-node streams nodes u k (op.Create v p) is in
       let P : Op → Type 0 = λ o. created_by o ≡ None in

@@ -1,5 +1,5 @@
 -- How a unit goes through its operations, and the values that it keeps in its keys.
-use Rattle.std.proofs.Common.{◌≡◌, ℕ, zero, suc, ◌≤◌, ◌+◌, ◌-◌, List, [], ◌∷◌, ◌++◌, Option, Some, None, length, map, replicate, take, slice_get, refl, sym, ◌∙◌, ap, subst, arith, append_assoc, length-append}
+use Rattle.std.proofs.Common.{◌≡◌, ℕ, zero, suc, ◌≤◌, ◌+◌, ◌-◌, List, [], ◌∷◌, ◌++◌, Option, Some, None, length, replicate, take, slice_get, refl, sym, ◌∙◌, ap, subst, arith, append_assoc, length-append}
 use Rattle.std.specs.Prelude.{◌%◌, ◌^◌, ⊤, slice_set}
 use Rattle.abt_machine.specs.declared.events.Piece.TheVariants as piece
 use Rattle.abt_machine.specs.declared.numbers.UnitNo.{UnitNo}
@@ -7,15 +7,13 @@ use Rattle.abt_machine.specs.declared.operations.Op.{Op}
 use Rattle.abt_machine.specs.declared.operations.Op.TheVariants as op
 use Rattle.abt_machine.specs.declared.workload.Parts.{Parts}
 use Rattle.abt_machine.specs.Limits.{key_limit}
-use Rattle.abt_machine.specs.Numbers.{object_no}
 use Rattle.abt_machine.specs.Workloads.{body_at, op_at, ops_of}
 use Rattle.abt_flow.specs.Effects.{Memory, effect, fresh, with_acc, with_key, with_number}
 use Rattle.abt_flow.specs.Flow.{Becomes, Executes, Functions, Made}
 use Rattle.abt_generate.proofs.Lists.{none-some, some-same}
 use Rattle.abt_graph.specs.Graphs.{keys_of, returned, word_of}
-use Rattle.abt_graph.specs.Workloads.{fetch_ops, node_ops}
+use Rattle.abt_graph.specs.Workloads.{fetch_ops}
 use Rattle.abt_graph.specs.declared.nodes.Node.{Node}
-use Rattle.abt_graph.proofs.Units.{first_ops}
 
 -- Keys.
 

@@ -1,5 +1,5 @@
 -- How many operations the units of a graph have.
-use Rattle.std.proofs.Common.{◌≡◌, ℕ, suc, ◌+◌, ◌*◌, List, [], ◌∷◌, ◌++◌, length, map, refl, sym, ◌∙◌, ap, arith, length-append}
+use Rattle.std.proofs.Common.{◌≡◌, ℕ, suc, ◌+◌, ◌*◌, List, [], ◌∷◌, length, map, refl, sym, ◌∙◌, ap, arith, length-append}
 use Rattle.std.specs.Prelude.{flat_map, sum_by}
 use Rattle.std.specs.List.{enumerate_from}
 use Rattle.std.proofs.lemmas.List.{length-map}
@@ -18,7 +18,7 @@ use Rattle.abt_graph.specs.declared.nodes.Node.{Node}
 pub length-units : (streams : ℕ) (nodes : List Node) → length (numbered (node_unit streams) nodes) ≡ length nodes
 length-units streams nodes = length-map (enumerate_from 0 nodes) (λ p. node_unit streams p.0 p.1) ∙ length-enumerate_from 0 nodes
 
-length-fetch_ops : (k : ℕ) (after : List UnitNo) → length (fetch_ops k after) ≡ 2 * length after
+pub length-fetch_ops : (k : ℕ) (after : List UnitNo) → length (fetch_ops k after) ≡ 2 * length after
 length-fetch_ops k [] = refl
 length-fetch_ops k (x ∷ after) = let rest : length (fetch_ops (suc k) after) ≡ 2 * length after = length-fetch_ops (suc k) after in omega arith
 

@@ -1,6 +1,6 @@
 -- The workload of a graph is valid.
 use Rattle.std.proofs.Common.{◌≡◌, ◌≢◌, ℕ, zero, suc, ◌<◌, ◌≤◌, ◌+◌, ◌^◌, true, List, [], ◌∷◌, ◌++◌, Option, Some, None, length, map, get_or, replicate, slice_get, refl, sym, ◌∙◌, ap, subst, arith, inl, inr, lit≤, zero-add}
-use Rattle.std.specs.Prelude.{◌-◌, ◌%◌, ◌⊎◌, All, AllPairs, flat_map, min, sum_by}
+use Rattle.std.specs.Prelude.{◌-◌, ◌%◌, ◌⊎◌, All, AllPairs, flat_map, min, option_map, sum_by}
 use Rattle.std.specs.List.{enumerate_from, list_all, range_with_len}
 use Rattle.std.proofs.Math.Nat.{min-le_left, min-le_right, le-min, mod-eq-sub-mod, mod-eq_of_lt}
 use Rattle.std.proofs.lemmas.List.{get_or-replicate, length-map, length-replicate}
@@ -16,6 +16,7 @@ use Rattle.abt_machine.specs.declared.operations.Access.{Access}
 use Rattle.abt_machine.specs.declared.operations.Access.TheVariants as access
 use Rattle.abt_machine.specs.declared.operations.Op.{Op}
 use Rattle.abt_machine.specs.declared.operations.Op.TheVariants as op
+use Rattle.abt_machine.specs.declared.operations.Rule.TheVariants as rule
 use Rattle.abt_machine.specs.declared.operations.Thing.{Thing}
 use Rattle.abt_machine.specs.declared.operations.Thing.TheVariants as thing
 use Rattle.abt_machine.specs.declared.workload.Parts.{Parts}
@@ -28,7 +29,7 @@ use Rattle.abt_machine.specs.Numbers.{object_no, pool_no, sched_no}
 use Rattle.abt_machine.specs.Operations.{IsDeclared, IsEventual, said_by}
 use Rattle.abt_machine.specs.Valid.{IsAccess, IsSched, IsStream, IsThing, IsUnit, IsValid, IsWord, placed_scheds, sched_in, words_said}
 use Rattle.abt_machine.specs.Words.{Text, numbered}
-use Rattle.abt_machine.specs.Workloads.{access_from, access_of, all_ops, main_from, main_of, ops_of, pools_of, thing_at}
+use Rattle.abt_machine.specs.Workloads.{access_from, access_of, all_ops, main_from, main_of, ops_of, pools_from, pools_of, rule_of, thing_at}
 use Rattle.abt_machine.proofs.Elements.{at-all, map-pairs}
 use Rattle.abt_generate.proofs.Lists.{Each, each-all, each-always, each-map, flat_map-nothing, none-some, some-same}
 use Rattle.abt_graph.specs.Graphs.{IsGraph, IsNode, op_count}
@@ -111,6 +112,17 @@ sched-valid streams s small stream =
 scheds-valid : (streams : ℕ) → streams ≤ 64 → All (IsSched streams) (map (sched_for streams) (range_with_len 0 streams))
 scheds-valid streams small = all-below (IsSched streams) (sched_for streams) streams (λ s stream. sched-valid streams s small stream)
 
+-- no scheduler's order is the user's
+
+no-user-in : (streams : ℕ) (ns : List ℕ) (g k : ℕ) → option_map (λ (part : SchedPart). part.rule) (slice_get (map (sched_for streams) ns) g) ≡ Some (rule.User k) → ⊥
+no-user-in streams [] g k is = none-some is
+no-user-in streams (n ∷ ns) zero k is = let e : rule.Randws n ≡ rule.User k = some-same is in cc
+no-user-in streams (n ∷ ns) (suc g) k is = no-user-in streams ns g k is
+
+pub no-user : (streams : ℕ) (nodes : List Node) (g k : ℕ) → rule_of (workload_of streams nodes) g ≡ Some (rule.User k) → ⊥
+unfolding workload_of
+no-user streams nodes g k is = no-user-in streams (range_with_len 0 streams) g k is
+
 -- every pool is for all streams
 open-access : (n p : ℕ) → access_from (slice_get (replicate n deque) p) ≡ access.Mpmc
 open-access zero p = refl
@@ -122,14 +134,28 @@ takes-any W s all [] = refl
 takes-any W s all (p ∷ ps) = rw (all p) (takes-any W s all ps)
 
 module _ (streams : ℕ) (nodes : List Node) where
+  -- scheduler s is the main one of stream s
+  pub main-graph : (s : ℕ) → s < streams → main_of (workload_of streams nodes) s ≡ s
+  unfolding workload_of
+  main-graph s stream =
+      let mains : length (map sched_no (range_with_len 0 streams)) ≡ streams = length-map-range_with_len sched_no 0 streams in
+      ap main_from (slice_get-get_or (map sched_no (range_with_len 0 streams)) s (sched_no 0) (omega arith) ∙
+      ap (λ g. let o : Option SchedNo = Some g in o) (get_or-map-range_with_len sched_no 0 streams s s (sched_no 0) stream (zero-add s)))
+
+  -- and lists these pools
+  pub pools-graph : (s : ℕ) → s < streams → pools_of (workload_of streams nodes) s ≡ pools_listed streams s
+  unfolding workload_of
+  pools-graph s stream =
+      let scheds : length (map (sched_for streams) (range_with_len 0 streams)) ≡ streams = length-map-range_with_len (sched_for streams) 0 streams in
+      ap (λ o. pools_from o) (slice_get-get_or (map (sched_for streams) (range_with_len 0 streams)) s (sched_for streams 0) (omega arith) ∙
+      ap (λ g. let o : Option SchedPart = Some g in o) (get_or-map-range_with_len (sched_for streams) 0 streams s s (sched_for streams 0) stream (zero-add s)))
+      ∙ numbers-of (pools_listed streams s)
+
   stream-valid : (s : ℕ) → s < streams → IsStream (workload_of streams nodes) s
   unfolding workload_of
   stream-valid s stream =
       let scheds : length (map (sched_for streams) (range_with_len 0 streams)) ≡ streams = length-map-range_with_len (sched_for streams) 0 streams in
-      let mains : length (map sched_no (range_with_len 0 streams)) ≡ streams = length-map-range_with_len sched_no 0 streams in
-      let at : slice_get (map sched_no (range_with_len 0 streams)) s ≡ Some (sched_no s) =
-      slice_get-get_or (map sched_no (range_with_len 0 streams)) s (sched_no 0) (omega arith) ∙ ap (λ g. let o : Option SchedNo = Some g in o) (get_or-map-range_with_len sched_no 0 streams s s (sched_no 0) stream (zero-add s)) in
-      let main : main_of (workload_of streams nodes) s ≡ s = ap main_from at in
+      let main : main_of (workload_of streams nodes) s ≡ s = main-graph s stream in
       record {
         main = omega arith;
         takes = takes-any (workload_of streams nodes) s (open-access streams) (pools_of (workload_of streams nodes) (main_of (workload_of streams nodes) s));

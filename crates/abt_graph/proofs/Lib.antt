@@ -1,6 +1,7 @@
 pub mod Lists
 pub mod Units
 pub mod Confluence
+pub mod Orderly
 pub mod Values
 pub mod Fetching
 pub mod RowNumbers

@@ -1,17 +1,16 @@
 -- Graphs whose nodes wait for none.
-use Rattle.std.proofs.Common.{◌≡◌, ℕ, ◌*◌, ◌<◌, ◌≤◌, List, [], Some, length, replicate, slice_get, refl, sym, ◌∙◌, ap, subst, arith, lit≤}
-use Rattle.std.specs.List.{range_with_len}
+use Rattle.std.proofs.Common.{◌≡◌, ℕ, ◌*◌, ◌<◌, ◌≤◌, List, [], length, sym, ◌∙◌, subst, arith, lit≤}
 use Rattle.std.proofs.lemmas.List.{length-replicate}
 use Rattle.std.proofs.lemmas.List.Elements.{All-nil}
 use Rattle.std.proofs.lemmas.List.Folds.{sum_by-replicate}
 use Rattle.std.proofs.lemmas.List.FromFn.{length-map-range_with_len}
-use Rattle.std.proofs.lemmas.Option.{slice_get-get_or, slice_get_within}
-use Rattle.std.specs.Prelude.{map, slice_index, sum_by}
+use Rattle.std.proofs.lemmas.Option.{slice_get_within}
+use Rattle.std.specs.Prelude.{sum_by}
 use Rattle.abt_machine.specs.declared.grammar.Format.TheVariants as format
 use Rattle.abt_machine.specs.declared.numbers.UnitNo.{UnitNo}
 use Rattle.abt_machine.specs.Limits.{function_limit, unit_limit}
 use Rattle.abt_flow.specs.Flow.{Functions}
-use Rattle.abt_graph.specs.Graphs.{AreValues, HasFunctions, IsFunction, IsGraph, IsNode, op_count, returned, value_of, values_of}
+use Rattle.abt_graph.specs.Graphs.{AreValues, HasFunctions, IsFunction, IsGraph, IsNode, op_count, returned, values_of}
 use Rattle.abt_graph.specs.Shapes.{lone, map_nodes, mapped}
 use Rattle.abt_graph.specs.declared.nodes.Node.{Node}
 use Rattle.abt_graph.proofs.Lists.{same-places}

@@ -1,6 +1,6 @@
 -- Leaves, and the nodes that take their values up.
-use Rattle.std.proofs.Common.{◌≡◌, ℕ, zero, suc, ◌+◌, ◌-◌, ◌*◌, ◌<◌, ◌≤◌, List, [], ◌∷◌, ◌++◌, Some, length, map, get_or, take, drop, slice_get, refl, sym, ◌∙◌, ap, subst, arith, inl, inr, length-append}
-use Rattle.std.specs.Prelude.{◌/◌, ◌⊎◌, All, min, slice_index, sum_by}
+use Rattle.std.proofs.Common.{◌≡◌, ℕ, zero, suc, ◌+◌, ◌-◌, ◌*◌, ◌<◌, ◌≤◌, List, [], ◌∷◌, Some, length, map, take, slice_get, sym, ◌∙◌, ap, subst, arith, inl, inr, length-append}
+use Rattle.std.specs.Prelude.{◌⊎◌, All, sum_by}
 use Rattle.std.specs.List.{range_with_len}
 use Rattle.std.proofs.Math.Nat.{min-le_left, min-le_right}
 use Rattle.std.proofs.lemmas.List.{length-replicate, length-take-le}
@@ -9,10 +9,10 @@ use Rattle.std.proofs.lemmas.List.Folds.{sum_by-replicate}
 use Rattle.std.proofs.lemmas.List.Sums.{sum_by-append}
 use Rattle.std.proofs.lemmas.Option.{slice_get_within}
 use Rattle.abt_machine.specs.declared.numbers.UnitNo.{UnitNo}
-use Rattle.abt_machine.specs.Limits.{function_limit, unit_limit}
+use Rattle.abt_machine.specs.Limits.{function_limit}
 use Rattle.abt_machine.specs.Numbers.{unit_no}
 use Rattle.abt_flow.specs.Flow.{Functions}
-use Rattle.abt_graph.specs.Graphs.{AreValues, HasFunctions, IsFunction, IsGraph, IsNode, op_count, returned, value_of, values_at, values_of}
+use Rattle.abt_graph.specs.Graphs.{AreValues, HasFunctions, IsFunction, IsGraph, IsNode, op_count, returned, values_of}
 use Rattle.abt_graph.specs.Shapes.{IsReduction, inner, inner_count, lone, map_nodes, mapped, reduction_nodes, taken_count}
 use Rattle.abt_graph.specs.declared.nodes.Node.{Node}
 use Rattle.abt_generate.proofs.Lists.{none-some}

@@ -1,5 +1,5 @@
 -- Rows that are a number each.
-use Rattle.std.proofs.Common.{◌≡◌, ℕ, List, [], ◌∷◌, map, refl, ◌∙◌, ap}
+use Rattle.std.proofs.Common.{◌≡◌, ℕ, List, [], ◌∷◌, map, refl, ap}
 use Rattle.abt_machine.specs.declared.events.Piece.{Piece}
 use Rattle.abt_machine.specs.declared.events.Piece.TheVariants as piece
 use Rattle.abt_graph.specs.Rows.{number_rows}

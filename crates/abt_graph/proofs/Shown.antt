@@ -1,5 +1,5 @@
 -- What is read off a finished run of a graph.
-use Rattle.std.proofs.Common.{◌≡◌, ℕ, zero, suc, ◌+◌, ◌<◌, List, [], ◌∷◌, ◌++◌, Option, Some, None, Vec, Global, length, map, take, get_or, refl, sym, ◌∙◌, ap, subst, arith, zero-add}
+use Rattle.std.proofs.Common.{◌≡◌, ℕ, zero, suc, ◌+◌, ◌<◌, ◌≤◌, List, [], ◌∷◌, ◌++◌, Option, Some, None, Vec, Global, length, map, take, get_or, refl, sym, ◌∙◌, ap, subst, arith, zero-add}
 use Rattle.std.specs.List.{All, range_with_len}
 use Rattle.std.proofs.lemmas.List.{get_or-map, length-map, map_more, map_push}
 use Rattle.std.proofs.lemmas.List.FromFn.{map-range_with_len_more}
@@ -8,6 +8,8 @@ use Rattle.abt_machine.specs.declared.events.Outcome.{Outcome}
 use Rattle.abt_machine.specs.declared.events.Outcome.TheVariants as outcome
 use Rattle.abt_machine.specs.declared.events.Piece.TheVariants as piece
 use Rattle.abt_machine.specs.declared.operations.OrderShape.{OrderShape}
+use Rattle.abt_machine.specs.declared.grammar.Format.TheVariants as format
+use Rattle.abt_machine.specs.Limits.{operation_limit}
 use Rattle.abt_machine.specs.Stored.{Stored}
 use Rattle.abt_machine.specs.declared.workload.Parts.{Parts}
 use Rattle.abt_machine.specs.Lives.{count_up}
@@ -19,10 +21,10 @@ use Rattle.abt_report.specs.declared.pictures.Row.{Row}
 use Rattle.abt_bounds.specs.Laws.{HasNoFreeCall}
 use Rattle.abt_drain.specs.Runs.{HasRun}
 use Rattle.abt_flow.specs.Confluent.{Confluent}
+use Rattle.abt_flow.specs.Finishing.{OrderlyFinish}
 use Rattle.abt_flow.specs.Flow.{Functions, IsFlow}
 use Rattle.abt_flow.specs.Laws.{outputs}
 use Rattle.abt_generate.proofs.Lists.{none-some}
-use Rattle.abt_graph.specs.Answers.{AnswersRun, AnswersOutcome, step_count}
 use Rattle.abt_graph.specs.Graphs.{HasFunctions, IsGraph, values_of}
 use Rattle.abt_graph.specs.Pictured.{IsNumber, output_of}
 use Rattle.abt_graph.specs.Rows.{number_rows}
@@ -30,6 +32,8 @@ use Rattle.abt_graph.specs.Workloads.{workload_of}
 use Rattle.abt_graph.specs.declared.nodes.Node.{Node}
 use Rattle.abt_graph.proofs.Confluence.{Confluent-graph, HasNoFreeCall-graph}
 use Rattle.abt_graph.proofs.Flowing.{rows-are-values}
+use Rattle.abt_graph.proofs.GraphParts.{IsValid-graph, no-user}
+use Rattle.abt_graph.proofs.Orderly.{IsOrderly-graph, ops-few}
 use Rattle.abt_graph.proofs.RowNumbers.{number_in, numbers-back}
 
 -- Lists of outputs.
@@ -68,13 +72,22 @@ rows-more rows i row numbers next n lt is out before push =
 
 -- Runs.
 
-module _ (streams count : ℕ) (nodes : List Node) (graph : IsGraph nodes) (R : Functions) (has : HasFunctions nodes count R) (W : Parts) (is : W ≡ workload_of streams nodes) (shapes : List OrderShape) (J : List Event) (o : Outcome) where
+module _ (streams count : ℕ) (some : 0 < streams) (small : streams ≤ 64) (nodes : List Node) (graph : IsGraph nodes) (R : Functions) (has : HasFunctions nodes count R) (W : Parts)
+    (is : W ≡ workload_of streams nodes) (shapes : List OrderShape) (n : ℕ) (enough : operation_limit format.Three ≤ n) (J : List Event) (o : Outcome)
+    (law : (V : Parts) (Y : Stored) → OrderlyFinish V Y) where
   abbrev Z : Stored
   Z = record { orders = shapes; returns = R }
 
-  module _ (run : HasRun W (record { orders = shapes; returns = R }) step_count J o) where
-    module _ (finished : o ≡ outcome.Finished) (rows : List Row) (pictured : IsPictureOf W J rows) where
-      -- a finished run shows the flow, and so the values
+  module _ (run : HasRun W (record { orders = shapes; returns = R }) n J o) where
+    -- it finished
+    finished : o ≡ outcome.Finished
+    finished =
+        let same : HasRun (workload_of streams nodes) Z n J o = subst (λ V. HasRun V Z n J o) is run in
+        law (workload_of streams nodes) Z (IsValid-graph streams nodes some small graph) (λ g k rule. absurd (no-user streams nodes g k rule)) (HasNoFreeCall-graph streams nodes Z count has)
+        (IsOrderly-graph streams nodes some graph) n J o (let few = ops-few streams nodes some graph in omega arith) same.run same.ended
+
+    module _ (rows : List Row) (pictured : IsPictureOf W J rows) where
+      -- so it shows the flow, and the values
       values-shown : map output_of rows ≡ number_rows (values_of R nodes)
       values-shown =
           let flow : IsFlow W R (outputs W (last_state W J)) =
@@ -87,47 +100,3 @@ module _ (streams count : ℕ) (nodes : List Node) (graph : IsGraph nodes) (R : 
 
       pub shown-values : (values : List ℕ) → number_rows values ≡ map output_of rows → values ≡ values_of R nodes
       shown-values values are = sym (numbers-back values) ∙ (ap (map number_in) (are ∙ values-shown) ∙ numbers-back (values_of R nodes))
-
-    pub answers-finished : {A : Type 0} (P : A → Type 0) (x : A) → o ≡ outcome.Finished → P x → AnswersRun (workload_of streams nodes) R (Some x) P
-    answers-finished P x finished holds = record {
-      orders = shapes;
-      journal = J;
-      end = o;
-      run = subst (λ V. HasRun V Z step_count J o) is run;
-      shows = subst (λ e. AnswersOutcome e (Some x) P) (sym finished) holds;
-    }
-
--- Answers.
-
-module _ {A : Type 0} (P : A → Type 0) where
-  shows-right : (o : Outcome) (x : A) → AnswersOutcome o (Some x) P → P x
-  shows-right outcome.Finished x is = is
-  shows-right outcome.Stuck x is = absurd (none-some (sym is))
-  shows-right (outcome.Budget s) x is = absurd (none-some (sym is))
-
-  -- an answer is right
-  pub answer-right : (W : Parts) (R : Functions) (x : A) → AnswersRun W R (Some x) P → P x
-  answer-right W R x is = shows-right is.end x is.shows
-
-module _ {A B : Type 0} (P : A → Type 0) (Q : B → Type 0) where
-  shows-some : (a : A) (b : B) → (P a → Q b) → (o : Outcome) → AnswersOutcome o (Some a) P → AnswersOutcome o (Some b) Q
-  shows-some a b h outcome.Finished is = h is
-  shows-some a b h outcome.Stuck is = absurd (none-some (sym is))
-  shows-some a b h (outcome.Budget s) is = absurd (none-some (sym is))
-
-  shows-none : (o : Outcome) → AnswersOutcome {A = A} o None P → AnswersOutcome {A = B} o None Q
-  shows-none outcome.Finished is = absurd is
-  shows-none outcome.Stuck is = refl
-  shows-none (outcome.Budget s) is = refl
-
-  -- an answer that is made of another
-  pub answers-some : (W : Parts) (R : Functions) (a : A) (b : B) → (P a → Q b) → AnswersRun W R (Some a) P → AnswersRun W R (Some b) Q
-  answers-some W R a b h is = record { orders = is.orders; journal = is.journal; end = is.end; run = is.run; shows = shows-some a b h is.end is.shows }
-
-  pub answers-none : (W : Parts) (R : Functions) → AnswersRun {A = A} W R None P → AnswersRun {A = B} W R None Q
-  answers-none W R is = record { orders = is.orders; journal = is.journal; end = is.end; run = is.run; shows = shows-none is.end is.shows }
-
--- an answer of a weaker kind
-pub answers-weaker : {A : Type 0} (P Q : A → Type 0) → ((x : A) → P x → Q x) → (W : Parts) (R : Functions) (answer : Option A) → AnswersRun W R answer P → AnswersRun W R answer Q
-answers-weaker P Q h W R None is = answers-none P Q W R is
-answers-weaker P Q h W R (Some x) is = answers-some P Q W R x x (h x) is

@@ -1,5 +1,5 @@
 -- The sum of words is a total.
-use Rattle.std.proofs.Common.{◌≡◌, ℕ, zero, suc, ◌+◌, ◌*◌, ◌≤◌, ◌<◌, List, [], ◌∷◌, ◌++◌, Option, Some, None, length, replicate, take, refl, sym, ◌∙◌, ap, arith, lit<, zero-add}
+use Rattle.std.proofs.Common.{◌≡◌, ℕ, zero, suc, ◌+◌, ◌*◌, ◌<◌, List, [], ◌∷◌, ◌++◌, Option, Some, None, length, replicate, take, sym, ◌∙◌, ap, arith, lit<, zero-add}
 use Rattle.std.specs.Prelude.{◌-◌, ◌%◌, ◌^◌, slice_index, sum}
 use Rattle.std.proofs.Math.Nat.{add-mod-mod, mod-eq_of_lt, mod-mod}
 use Rattle.std.proofs.lemmas.List.Folds.{sum_by-replicate}

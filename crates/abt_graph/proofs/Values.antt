@@ -6,7 +6,7 @@ use Rattle.abt_flow.specs.Flow.{Functions}
 use Rattle.abt_generate.proofs.Lists.{Each, none-some, some-same}
 use Rattle.abt_graph.specs.Graphs.{AreValues, IsGraph, returned, value_of, values_after, values_at, values_of}
 use Rattle.abt_graph.specs.declared.nodes.Node.{Node}
-use Rattle.abt_graph.proofs.Lists.{all-each, append-nil, get-before, get-behind, index-before}
+use Rattle.abt_graph.proofs.Lists.{all-each, append-nil, get-behind, index-before}
 
 -- values that more stand behind
 values-before : (before more : List ℕ) (after : List UnitNo) → Each (λ (x : UnitNo). x.0 < length before) after → values_at (before ++ more) after ≡ values_at before after

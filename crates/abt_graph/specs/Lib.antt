@@ -1,4 +1,3 @@
-pub mod Answers
 pub mod Graphs
 pub mod Pictured
 pub mod Rows

@@ -2,6 +2,7 @@
 
 ghost use Rattle.std.specs.Prelude.{◌≡◌, ◌≤◌, ◌<◌, ◌+◌, ◌-◌, ◌*◌, List, slice_index, ℕ};
 ghost use Rattle.abt_flow.specs.Confluent.{Confluent};
+ghost use Rattle.abt_flow.specs.Finishing.{IsOrderly};
 ghost use Rattle.abt_flow.specs.Flow.{Functions, IsFlow};
 ghost use Rattle.abt_machine.specs.declared.events.Piece.{Piece};
 ghost use Rattle.abt_machine.specs.declared.grammar.Format.TheVariants as format;
@@ -35,6 +36,12 @@ pub fn graphs_are_valid()
 /// What its units put out does not depend on the schedule.
 pub fn graphs_are_confluent()
     ensures { (streams : ℕ) (nodes : List Node) → Confluent (workload_of streams nodes) }
+{}
+
+/// It is orderly, so each of its runs that ends is finished, whatever the schedule, if no function that it calls is free and each stream
+/// may make as many steps as there are operations.
+pub fn graphs_are_orderly()
+    ensures { (streams : ℕ) (nodes : List Node) → 0 < streams → IsGraph nodes → IsOrderly (workload_of streams nodes) }
 {}
 
 /// By its flow each unit puts out the value of its node.

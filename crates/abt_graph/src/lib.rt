@@ -13,8 +13,8 @@ mod workload;
 pub use answers::run_graph;
 pub use keys::sum_of;
 pub use laws::{
-    graphs_are_confluent, graphs_are_valid, graphs_put_out_values, maps_return, reductions_return,
-    reductions_total, sums_are_totals, values_fit, wavefronts_return,
+    graphs_are_confluent, graphs_are_orderly, graphs_are_valid, graphs_put_out_values, maps_return,
+    reductions_return, reductions_total, sums_are_totals, values_fit, wavefronts_return,
 };
 pub use nodes::Node;
 pub use runs::{run_map, run_reduction, run_sum, run_wavefront};

@@ -1,7 +1,6 @@
-//! Graphs of the three shapes that run on threads, and their values. For each call None says that the run did not finish, and Err that
-//! no memory was found.
+//! Graphs of the three shapes that run on threads, and their values. For each call Err says that no memory was found.
 
-ghost use Rattle.std.specs.Prelude.{◌≡◌, ◌≤◌, ◌<◌, ◌*◌, IfOk, IfSome};
+ghost use Rattle.std.specs.Prelude.{◌≡◌, ◌≤◌, ◌<◌, ◌*◌, IfOk};
 ghost use Rattle.abt_machine.specs.declared.grammar.Format.TheVariants as format;
 ghost use Rattle.abt_machine.specs.Limits.{stream_limit, unit_limit};
 ghost use Rattle.abt_graph.specs.Graphs.{IsFunction};
@@ -24,11 +23,11 @@ pub fn run_map<R: Threads + Wait + Sync, W: Work + Sync>(
     function: u32,
     streams: u32,
     work: &W,
-) -> Result<Option<Vec<u64>>, Want>
+) -> Result<Vec<u64>, Want>
     requires few { n ≤ unit_limit format.Three }
     requires function { IsFunction function (W.count work.now) (W.returns work.now) }
     requires streams { (0 < streams) × (streams ≤ stream_limit format.Three) }
-    ensures { IfOk result (λ answer. IfSome answer (λ values. values.items ≡ mapped (W.returns work.now) n function)) }
+    ensures { IfOk result (λ values. values.items ≡ mapped (W.returns work.now) n function) }
 {
     let nodes = map(alloc, n, function)?;
     run_graph(rt, alloc, &nodes, streams, work)
@@ -43,12 +42,12 @@ pub fn run_reduction<R: Threads + Wait + Sync, W: Work + Sync>(
     inner_function: u32,
     streams: u32,
     work: &W,
-) -> Result<Option<Vec<u64>>, Want>
+) -> Result<Vec<u64>, Want>
     requires few { n ≤ LEAF_LIMIT }
     requires leaf { IsFunction leaf_function (W.count work.now) (W.returns work.now) }
     requires inner { IsFunction inner_function (W.count work.now) (W.returns work.now) }
     requires streams { (0 < streams) × (streams ≤ stream_limit format.Three) }
-    ensures { IfOk result (λ answer. IfSome answer (λ values. IsReduction (W.returns work.now) n leaf_function inner_function values.items)) }
+    ensures { IfOk result (λ values. IsReduction (W.returns work.now) n leaf_function inner_function values.items) }
 {
     let nodes = reduction(alloc, n, leaf_function, inner_function)?;
     run_graph(rt, alloc, &nodes, streams, work)
@@ -64,19 +63,17 @@ pub fn run_sum<R: Threads + Wait + Sync, W: Work + Sync>(
     inner_function: u32,
     streams: u32,
     work: &W,
-) -> Result<Option<u64>, Want>
+) -> Result<u64, Want>
     requires some { 0 < n }
     requires few { n ≤ LEAF_LIMIT }
     requires leaf { IsFunction leaf_function (W.count work.now) (W.returns work.now) }
     requires inner { IsFunction inner_function (W.count work.now) (W.returns work.now) }
     requires adds { ReturnsSum (W.returns work.now) inner_function }
     requires streams { (0 < streams) × (streams ≤ stream_limit format.Three) }
-    ensures { IfOk result (λ answer. IfSome answer (λ sum. sum ≡ word_sum (mapped (W.returns work.now) n leaf_function))) }
+    ensures { IfOk result (λ sum. sum ≡ word_sum (mapped (W.returns work.now) n leaf_function)) }
 {
-    match run_reduction(rt, alloc, n, leaf_function, inner_function, streams, work)? {
-        Some(values) => Ok(Some(values[values.len() - 1])),
-        None => Ok(None),
-    }
+    let values = run_reduction(rt, alloc, n, leaf_function, inner_function, streams, work)?;
+    Ok(values[values.len() - 1])
 }
 
 /// The values of the cells of a table, row by row, on the threads of this many streams.
@@ -88,11 +85,11 @@ pub fn run_wavefront<R: Threads + Wait + Sync, W: Work + Sync>(
     function: u32,
     streams: u32,
     work: &W,
-) -> Result<Option<Vec<u64>>, Want>
+) -> Result<Vec<u64>, Want>
     requires few { rows * columns ≤ unit_limit format.Three }
     requires function { IsFunction function (W.count work.now) (W.returns work.now) }
     requires streams { (0 < streams) × (streams ≤ stream_limit format.Three) }
-    ensures { IfOk result (λ answer. IfSome answer (λ values. IsWavefront (W.returns work.now) rows columns function values.items)) }
+    ensures { IfOk result (λ values. IsWavefront (W.returns work.now) rows columns function values.items) }
 {
     let nodes = wavefront(alloc, rows, columns, function)?;
     run_graph(rt, alloc, &nodes, streams, work)

@@ -1,6 +1,6 @@
 //! Squares, each computed by a node.
 
-ghost use Rattle.std.specs.Prelude.{◌≡◌, ◌≤◌, ◌*◌, ◌%◌, ◌^◌, IfOk, IfSome, map};
+ghost use Rattle.std.specs.Prelude.{◌≡◌, ◌≤◌, ◌*◌, ◌%◌, ◌^◌, IfOk, map};
 ghost use Rattle.std.specs.List.{range_with_len};
 ghost use Rattle.graph_caller.specs.Squares.{square_of};
 
@@ -42,9 +42,9 @@ pub fn squares_on_threads<R: Threads + Wait + Sync>(
     rt: &R,
     alloc: Global,
     n: u32,
-) -> Result<Option<Vec<u64>>, Want>
+) -> Result<Vec<u64>, Want>
     requires { n ≤ 65536 }
-    ensures { IfOk result (λ answer. IfSome answer (λ squares. squares.items ≡ map (λ u. u * u % 2 ^ 64) (range_with_len 0 n))) }
+    ensures { IfOk result (λ squares. squares.items ≡ map (λ u. u * u % 2 ^ 64) (range_with_len 0 n)) }
 {
     run_map(rt, alloc, n, 0, 4, &Squares)
 }

@@ -16,4 +16,4 @@ returns g c =
     let R = g.W.Work.returns c.args.work.now in
     let nodes : c.deref.result.now ≡ map_nodes c.args.n c.args.function = c.deref.ensures.value ∙ c.in_ok-nodes.ensures.nodes in
     answers-then c.run_graph.result (λ values. values ≡ values_of R c.deref.result.now) (λ values. values ≡ mapped R c.args.n c.args.function)
-    (λ values is. is ∙ (ap (values_of R) nodes ∙ map-values R c.args.n c.args.function c.requires.few c.requires.function.callable)) c.run_graph.ensures.values
+    (λ values is. is ∙ (ap (values_of R) nodes ∙ map-values R c.args.n c.args.function c.requires.few c.requires.function.callable)) c.run_graph.ensures

@@ -17,4 +17,4 @@ returns g c =
     let nodes : c.deref.result.now ≡ reduction_nodes c.args.n c.args.leaf_function c.args.inner_function = c.deref.ensures.value ∙ c.in_ok-nodes.ensures.nodes in
     answers-then c.run_graph.result (λ values. values ≡ values_of R c.deref.result.now) (IsReduction R c.args.n c.args.leaf_function c.args.inner_function)
     (λ values is. subst (IsReduction R c.args.n c.args.leaf_function c.args.inner_function) (sym (is ∙ ap (values_of R) nodes))
-    (IsReduction-values R c.args.n c.args.leaf_function c.args.inner_function c.requires.few c.requires.leaf.callable c.requires.inner.callable)) c.run_graph.ensures.values
+    (IsReduction-values R c.args.n c.args.leaf_function c.args.inner_function c.requires.few c.requires.leaf.callable c.requires.inner.callable)) c.run_graph.ensures

@@ -17,4 +17,4 @@ returns g c =
     let nodes : c.deref.result.now ≡ wavefront_nodes c.args.rows c.args.columns c.args.function = c.deref.ensures.value ∙ c.in_ok-nodes.ensures.nodes in
     answers-then c.run_graph.result (λ values. values ≡ values_of R c.deref.result.now) (IsWavefront R c.args.rows c.args.columns c.args.function)
     (λ values is. subst (IsWavefront R c.args.rows c.args.columns c.args.function) (sym (is ∙ ap (values_of R) nodes))
-    (IsWavefront-values R c.args.rows c.args.columns c.args.function c.requires.few c.requires.function.callable)) c.run_graph.ensures.values
+    (IsWavefront-values R c.args.rows c.args.columns c.args.function c.requires.few c.requires.function.callable)) c.run_graph.ensures

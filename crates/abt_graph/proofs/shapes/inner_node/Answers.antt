@@ -1,4 +1,4 @@
-use Rattle.std.proofs.Common.{◌+◌, refl}
+use Rattle.std.proofs.Common.{refl}
 use Rattle.abt_machine.specs.Numbers.{unit_no}
 use Rattle.abt_graph.proofs.Loops.{range-from}
 use Rattle.abt_graph.proofs.shapes.inner_node.Goals as goal
