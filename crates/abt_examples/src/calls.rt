@@ -7,7 +7,7 @@ use crate::rows::Row;
 use abt_functions::TextFunctions;
 use abt_order::StoredOrder;
 use abt_report::journal_text;
-use abt_run::abtrun;
+use abt_run::{Keep, abtrun};
 use abt_source::{MemoryFiles, MemorySink, NamedBytes};
 use std::alloc::{AllocError, Global};
 use std::process::Abort;
@@ -41,18 +41,19 @@ fn sink(alloc: Global, most: usize, failing: u64) -> Result<MemorySink, Fail>
     Ok(MemorySink::new(alloc, ROOM, most, vec![in alloc; failing]?)?)
 }
 
-// Whether a call with these words over these files leaves what the row says.
+// Whether a call with these words over these files, which keeps these journals, leaves what the row says.
 fn leaves<R: Threads + Wait + Sync>(
     rt: &R,
     alloc: Global,
     words: &[String],
     files: &mut MemoryFiles,
     row: &Row,
+    keep: Keep,
 ) -> Result<bool, Fail> {
     let mut out = sink(alloc, row.most.max(1), row.failing.out)?;
     let mut err = sink(alloc, ROOM, row.failing.err)?;
     let orders = [StoredOrder::rotating(), StoredOrder::mirroring()];
-    let ended = abtrun(
+    let answer = abtrun(
         rt,
         alloc,
         words,
@@ -61,20 +62,34 @@ fn leaves<R: Threads + Wait + Sync>(
         &mut err,
         &TextFunctions,
         &orders,
+        keep,
     );
-    let journal = journal_text(alloc, &ended.journal)?;
-    Ok(row.says(ended.status, out.bytes(), err.bytes(), &journal))
+    let journal = match &answer.journal {
+        Some(journal) => journal_text(alloc, journal)?,
+        None => Vec::new(alloc),
+    };
+    Ok(row.says(answer.status, out.bytes(), err.bytes(), &journal))
 }
 
-/// A row's call leaves what the row says.
+/// A row's call, which keeps each journal, leaves what the row says.
 pub(crate) fn check<R: Threads + Wait + Sync + Abort>(
     rt: &R,
     alloc: Global,
     row: &Row,
 ) -> Result<(), Fail> {
+    check_keeping(rt, alloc, row, Keep::Always)
+}
+
+/// A row's call, which keeps these journals, leaves what the row says.
+pub(crate) fn check_keeping<R: Threads + Wait + Sync + Abort>(
+    rt: &R,
+    alloc: Global,
+    row: &Row,
+    keep: Keep,
+) -> Result<(), Fail> {
     let words = list_of(alloc, row.words)?;
     let mut files = files_of(alloc, row)?;
-    let is = leaves(rt, alloc, &words, &mut files, row)?;
+    let is = leaves(rt, alloc, &words, &mut files, row, keep)?;
     assert!(rt; is, "{:?} {}{}", row.other, row.out, row.err);
     Ok(())
 }

@@ -5,6 +5,9 @@ use crate::rows::ONE_POOL;
 pub(crate) const ONE_POOL_OF_TWO: &str =
     "abt 2\nstreams 1\npool 0 fifo mpmc\nsched 0 prio 0\nstream 0 main 0\n";
 
+pub(crate) const ONE_POOL_OF_THREE: &str =
+    "abt 3\nstreams 1\npool 0 fifo mpmc\nsched 0 prio 0\nstream 0 main 0\n";
+
 const TWO_SCHEDS_OF_TWO: &str =
     "abt 2\nstreams 1\npool 0 fifo mpmc\nsched 0 prio 0\nsched 1 prio 0\nstream 0 main 0\n";
 

@@ -20,7 +20,7 @@ mod wide;
 
 use abt_functions::TextFunctions;
 use abt_order::StoredOrder;
-use abt_run::abtrun;
+use abt_run::{Keep, abtrun};
 use abt_source::{MemorySink, RealFiles, read_all};
 use std::alloc::{AllocError, Global};
 use std::sync::Wait;
@@ -96,7 +96,7 @@ fn is_as_stored<R: Threads + Wait + Sync>(
     let mut out = MemorySink::new(alloc, ROOM, ROOM, Vec::new(alloc))?;
     let mut err = MemorySink::new(alloc, ROOM, ROOM, Vec::new(alloc))?;
     let orders = [StoredOrder::rotating(), StoredOrder::mirroring()];
-    let ended = abtrun(
+    let answer = abtrun(
         rt,
         alloc,
         &words,
@@ -105,9 +105,10 @@ fn is_as_stored<R: Threads + Wait + Sync>(
         &mut err,
         &TextFunctions,
         &orders,
+        Keep::IfPrinted,
     );
     let stored = read_all(alloc, files, output, ROOM)?;
-    Ok(ended.status == status && out.bytes() == stored.as_slice())
+    Ok(answer.status == status && out.bytes() == stored.as_slice())
 }
 
 fn main(rt: HostRuntime) -> Result<(), Fail> {

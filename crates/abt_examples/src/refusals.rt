@@ -8,7 +8,7 @@ pub(crate) type Refusal = (&'static str, &'static str, &'static [u8], u8, &'stat
 const BAD_WORDS: &str = "abtrun: bad command line\n";
 
 /// Words, files and texts that are refused.
-pub(crate) static REFUSALS: [Refusal; 20] = [
+pub(crate) static REFUSALS: [Refusal; 25] = [
     // task yields
     (
         "run f",
@@ -65,6 +65,28 @@ pub(crate) static REFUSALS: [Refusal; 20] = [
     ("run f --steps 0", "", b"", 2, BAD_WORDS),
     // bad words
     ("run f --steps 100001", "", b"", 2, BAD_WORDS),
+    // more steps than formats 1 and 2 allow, also of a text that would be refused
+    ("run f --steps 100001", "abt 2\n", b"walk\n", 2, BAD_WORDS),
+    // as many as format 3 allows
+    (
+        "run f --steps 16777216",
+        "abt 3\n",
+        b"walk\n",
+        3,
+        "abtrun: line 2: unknown\n",
+    ),
+    // more than it allows
+    ("run f --steps 16777217", "abt 3\n", b"", 2, BAD_WORDS),
+    // more steps than formats 1 and 2 allow, and no such file
+    (
+        "run none --steps 100001",
+        "",
+        b"",
+        5,
+        "abtrun: cannot read\n",
+    ),
+    // and more than any format allows
+    ("run none --steps 16777217", "", b"", 2, BAD_WORDS),
     // bad words
     ("run f g", "", b"", 2, BAD_WORDS),
     // bad words

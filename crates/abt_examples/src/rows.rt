@@ -34,7 +34,7 @@ pub(crate) struct Row<'a> {
     pub(crate) err: &'a str,
     /// Whether the message is stated.
     pub(crate) has_err: bool,
-    /// The text of the answered journal, if the row states it.
+    /// The text of the answered journal, which is empty if none is answered, if the row states it.
     pub(crate) journal: Option<&'a str>,
 }
 

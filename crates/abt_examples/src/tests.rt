@@ -1,10 +1,11 @@
 //! The calls of the worked rows.
 
-use crate::calls::{check, check_all};
+use crate::calls::{check, check_all, check_keeping};
 use crate::checks::CHECKS;
 use crate::formats::{FINISHED, ONE_POOL_OF_TWO, REFUSED};
 use crate::refusals::{REFUSALS, SHORT_WRITE, refused_row};
 use crate::rows::{FLOWS, OBJECTS, REQUESTS, RUN, Row, SCHEDULERS, STREAMS, UNITS};
+use abt_run::Keep;
 use std::test::Fail;
 
 // One byte more than a text of format 1 may have.
@@ -26,6 +27,28 @@ fn calls_leave_what_their_rows_say(rt: HostRuntime) -> Result<(), Fail> {
         check_all(&rt, alloc, &STREAMS)?;
     }
     Ok(())
+}
+
+// A run that keeps its journal if it prints it, and prints none.
+const UNPRINTED: Row<'static> = Row {
+    lines: b"units 0\nend\n",
+    out: "tally units 0 unborn 0 pool 0 stream 0 blocked 0 done 0 asked 0 access 0 steps 0\nfinished\n",
+    journal: Some(""),
+    ..RUN
+};
+
+// The same, printed.
+const PRINTED: Row<'static> = Row {
+    words: "run f --journal",
+    out: "1 0 miss 0\ntally units 0 unborn 0 pool 0 stream 0 blocked 0 done 0 asked 0 access 0 steps 0\nfinished\n",
+    journal: Some("1 0 miss 0\n"),
+    ..UNPRINTED
+};
+
+#[test]
+fn a_journal_is_kept_if_it_is_printed(rt: HostRuntime) -> Result<(), Fail> {
+    check_keeping(&rt, rt.alloc(), &UNPRINTED, Keep::IfPrinted)?;
+    check_keeping(&rt, rt.alloc(), &PRINTED, Keep::IfPrinted)
 }
 
 #[test]

@@ -1,6 +1,7 @@
 //! Calls over texts that are made: of many lines, pools, words, units, keys, pieces, conditions and steps.
 
 use crate::calls::check;
+use crate::formats::{ONE_POOL_OF_THREE, ONE_POOL_OF_TWO};
 use crate::rows::{ONE_POOL, RUN, Row};
 use std::alloc::{AllocError, Global};
 use std::process::Abort;
@@ -147,6 +148,28 @@ static BARRIER_REPORT: [Part<'static>; 2] = [
     ),
 ];
 
+// 40 units of 256 operations each, which are more steps than a stream may make by the first two formats if no option asks for any, and
+// the reports by format 2 and by format 3.
+const MANY_STEPS: &str = "units 40\nmany 0 40 ult at 0\nrepeat 255 add 1\nprint\nend\n";
+
+static SPENT_REPORT: [Part<'static>; 2] = [
+    (0, 39, "unit @ done: 255\n"),
+    (
+        39,
+        40,
+        "unit @ stream 0:\ntally units 40 unborn 0 pool 0 stream 1 blocked 0 done 39 asked 0 access 0 steps 10000\nbudget 0\n",
+    ),
+];
+
+static FINISHED_REPORT: [Part<'static>; 2] = [
+    (0, 40, "unit @ done: 255\n"),
+    (
+        0,
+        1,
+        "tally units 40 unborn 0 pool 0 stream 0 blocked 0 done 40 asked 0 access 0 steps 10240\nfinished\n",
+    ),
+];
+
 // Appends a part for this number.
 fn push_part(text: &mut String, number: u32, part: &str) -> Result<(), AllocError> {
     for c in part.chars() {
@@ -263,6 +286,35 @@ fn a_barrier_of_4001_lets_all_through(rt: HostRuntime) -> Result<(), Fail> {
     };
     for _ in 0..10 {
         check_made(&rt, rt.alloc(), &[], &BARRIER_REPORT, &row)?;
+    }
+    Ok(())
+}
+
+// By format 3 a stream may make as many steps as the workload has operations.
+#[test]
+fn the_format_says_how_many_steps_a_stream_may_make(rt: HostRuntime) -> Result<(), Fail> {
+    let lines = [(0, 1, MANY_STEPS)];
+    let spent = Row {
+        head: ONE_POOL_OF_TWO,
+        status: 4,
+        ..RUN
+    };
+    let finished = Row {
+        head: ONE_POOL_OF_THREE,
+        ..RUN
+    };
+    check_made(&rt, rt.alloc(), &lines, &SPENT_REPORT, &spent)?;
+    check_made(&rt, rt.alloc(), &lines, &FINISHED_REPORT, &finished)?;
+    for (words, row) in [
+        ("run f --steps 10240", &spent),
+        ("run f --steps 16777216", &finished),
+    ] {
+        let row = Row {
+            words,
+            status: 0,
+            ..*row
+        };
+        check_made(&rt, rt.alloc(), &lines, &FINISHED_REPORT, &row)?;
     }
     Ok(())
 }

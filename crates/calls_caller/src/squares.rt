@@ -1,9 +1,9 @@
 //! Squares, computed in units.
 
-ghost use Rattle.std.specs.Prelude.{◌≤◌, IfOk, length};
+ghost use Rattle.std.specs.Prelude.{◌≤◌, IfOk, false, length};
 ghost use Rattle.abt_machine.specs.Limits.{function_limit};
 ghost use Rattle.abt_order.specs.Stored.{stored_of};
-ghost use Rattle.abt_drain.specs.Runs.{HasRun};
+ghost use Rattle.abt_drain.specs.Ends.{LeavesRun};
 ghost use Rattle.calls_caller.specs.Squares.{square_of};
 
 use abt_drain::Run;
@@ -37,7 +37,7 @@ impl Work for Squares {
     }
 }
 
-/// The run of a workload whose units square their numbers.
+/// The run of a workload whose units square their numbers. Its journal is not kept.
 #[tactic(auto, using(crate::proofs::Storing::stores_calls))]
 pub fn run_squares<R: Threads + Wait + Sync>(
     rt: &R,
@@ -46,8 +46,8 @@ pub fn run_squares<R: Threads + Wait + Sync>(
     orders: &[StoredOrder],
 ) -> Result<Run, Want>
     requires { 2 ≤ length orders.now }
-    ensures { IfOk result (λ run. HasRun w.now (stored_of orders.now square_of) 10000 run.journal run.outcome) }
+    ensures { IfOk result (LeavesRun w.now (stored_of orders.now square_of) 10000 false) }
 {
     w.known();
-    run_streams(rt, alloc, w, orders, &Squares, STEPS)
+    run_streams(rt, alloc, w, orders, &Squares, STEPS, false)
 }

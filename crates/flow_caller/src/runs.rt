@@ -71,7 +71,7 @@ pub fn numbers_on_threads<R: Threads + Wait + Sync>(
     let w = mesh(alloc, nodes)?;
     // No scheduler of a mesh has a stored order, but a run is passed two.
     let orders = [StoredOrder::rotating(), StoredOrder::mirroring()];
-    let run = run_streams(rt, alloc, &w, &orders, &AnyWork, STEPS)?;
+    let run = run_streams(rt, alloc, &w, &orders, &AnyWork, STEPS, false)?;
     match run.outcome {
         Outcome::Finished => Ok(Some(numbers(alloc, run.picture.items())?)),
         Outcome::Stuck | Outcome::Budget(_) => Ok(None),

@@ -1,4 +1,4 @@
-//! Runs and verdicts. For each call Err says that memory ran out, or that a text is not a journal's. No scheduler of these
+//! Runs and verdicts. For each call Err says that memory ran out, that a text is not a journal's, or that a run kept none. No scheduler of these
 //! workloads has a stored order, but a run is passed two.
 
 ghost use Rattle.std.specs.Prelude.{◌≤◌, length};
@@ -29,26 +29,27 @@ fn not_journal(cause: TextFault) -> io::Error {
     })
 }
 
-/// The run of a workload on this thread.
-pub fn drained(alloc: Global, w: &Workload, steps: u64) -> io::Result<Run> {
+/// The run of a workload on this thread. Its journal is kept if `keeps`.
+pub fn drained(alloc: Global, w: &Workload, steps: u64, keeps: bool) -> io::Result<Run> {
     let orders = [StoredOrder::rotating(), StoredOrder::mirroring()];
-    drain(alloc, w, &orders, steps).map_err(no_memory)
+    drain(alloc, w, &orders, steps, keeps).map_err(no_memory)
 }
 
-/// A run of a workload on threads.
+/// A run of a workload on threads. Its journal is kept if `keeps`.
 #[tactic(auto, using(crate::proofs::Storing::stores_calls))]
 pub fn threaded<R: Threads + Wait + Sync>(
     rt: &R,
     alloc: Global,
     w: &Workload,
     steps: u64,
+    keeps: bool,
 ) -> io::Result<Run> {
     let orders = [StoredOrder::rotating(), StoredOrder::mirroring()];
     w.known();
-    run_streams(rt, alloc, w, &orders, &AnyWork, steps).map_err(no_memory)
+    run_streams(rt, alloc, w, &orders, &AnyWork, steps, keeps).map_err(no_memory)
 }
 
-/// A run of a workload on threads, whose units call functions of this length.
+/// A run of a workload on threads, whose units call functions of this length. Its journal is not kept.
 #[tactic(auto, using(crate::proofs::Storing::stores_calls))]
 pub fn calling<R: Threads + Wait + Sync>(
     rt: &R,
@@ -60,10 +61,10 @@ pub fn calling<R: Threads + Wait + Sync>(
     let orders = [StoredOrder::rotating(), StoredOrder::mirroring()];
     let turning = Turning { length };
     w.known();
-    run_streams(rt, alloc, w, &orders, &turning, steps).map_err(no_memory)
+    run_streams(rt, alloc, w, &orders, &turning, steps, false).map_err(no_memory)
 }
 
-/// How many events the streams of a workload make in a first wave, on threads. Their logs are not merged.
+/// How many events the streams of a workload make in a first wave, on threads. Their logs are not kept.
 pub fn waved<R: Threads + Wait + Sync>(
     rt: &R,
     alloc: Global,
@@ -74,7 +75,7 @@ pub fn waved<R: Threads + Wait + Sync>(
     let streams = first_wave(rt, alloc, &orders, w, steps).map_err(no_memory)?;
     Ok(
         streams.iter().fold(0, |events: u64, stream| {
-            events.saturating_add(stream.log().len() as u64)
+            events.saturating_add(stream.written())
         }),
     )
 }
@@ -91,7 +92,7 @@ fn first_wave<'w, R: Threads + Wait + Sync>(
     requires orders { 2 ≤ length orders.now }
 {
     w.known();
-    let streams = start_streams(alloc, w, steps)?;
+    let streams = start_streams(alloc, w, steps, false)?;
     let objects = Objects::place(alloc, w)?;
     let live = vec![in alloc; true; w.streams() as usize]?;
     let (_, streams) = run_wave(rt, alloc, w, orders, &AnyWork, objects, streams, &live)?;
@@ -106,10 +107,16 @@ pub fn judged(alloc: Global, w: &Workload, journal: &Journal) -> io::Result<Verd
     check(alloc, w, &orders, &AnyWork, journal).map_err(no_memory)
 }
 
+/// The journal of a run that kept it.
+pub fn kept_journal(run: Run) -> io::Result<Journal> {
+    let Run { journal, .. } = run;
+    journal.ok_or(io::Error::from(io::ErrorKind::InvalidData))
+}
+
 /// The text of the journal of a workload's run on this thread.
 pub fn drained_text(alloc: Global, w: &Workload, steps: u64) -> io::Result<Vec<u8>> {
-    let run = drained(alloc, w, steps)?;
-    journal_text(alloc, &run.journal).map_err(no_memory)
+    let journal = kept_journal(drained(alloc, w, steps, true)?)?;
+    journal_text(alloc, &journal).map_err(no_memory)
 }
 
 /// The journal of a text.

@@ -13,18 +13,19 @@ mod turning;
 
 use crate::races::races;
 use crate::small::small;
-use crate::subjects::{CALLS, CHECK, IDLE, SHARED, THREADS};
+use crate::subjects::{CALLS, CHECK, IDLE, JOURNAL, SHARED, THREADS};
 use std::alloc::Global;
 use std::rt::Clock;
 use std::sync::Wait;
 use std::thread::Threads;
 use std::{env, io};
 
-const USAGE: &str = "usage: run_bench small|threads|shared|idle|check|calls|all";
+const USAGE: &str = "usage: run_bench small|threads|journal|shared|idle|check|calls|all";
 
 // All subjects, one after the other.
 fn all<R: Threads + Wait + Sync + Print + Clock>(rt: &R, alloc: Global) -> io::Result<()> {
     races(rt, alloc, &THREADS)?;
+    races(rt, alloc, &JOURNAL)?;
     races(rt, alloc, &SHARED)?;
     races(rt, alloc, &IDLE)?;
     races(rt, alloc, &CHECK)?;
@@ -40,6 +41,7 @@ fn subject<R: Threads + Wait + Sync + Print + Eprint + Clock>(
     match name {
         "small" => small(rt, alloc),
         "threads" => races(rt, alloc, &THREADS),
+        "journal" => races(rt, alloc, &JOURNAL),
         "shared" => races(rt, alloc, &SHARED),
         "idle" => races(rt, alloc, &IDLE),
         "check" => races(rt, alloc, &CHECK),

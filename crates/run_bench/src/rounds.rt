@@ -1,12 +1,13 @@
 //! What is timed in a round.
 
-use crate::calls::{calling, drained, drained_text, journal_of, judged, threaded, waved};
+use crate::calls::{
+    calling, drained, drained_text, journal_of, judged, kept_journal, threaded, waved,
+};
 use crate::figures::Counted;
 use crate::turning::{Length, looped};
 use abt_check::Verdict;
 use abt_drain::Run;
 use abt_machine::{Journal, Workload};
-use abt_report::count_steps;
 use std::alloc::Global;
 use std::io;
 use std::rt::Clock;
@@ -20,17 +21,19 @@ const STEPS: u64 = 1_000_000;
 /// What is done with a workload.
 #[derive(Clone, Copy)]
 pub enum Work {
-    /// It is run on this thread.
+    /// It is run on this thread, and its journal is kept.
     Drain,
-    /// It is run on threads.
+    /// It is run on threads, and its journal is kept.
     Streams,
-    /// Its streams make a first wave on threads, and their logs are not merged.
+    /// It is run on threads, and its journal is kept or not. Its steps are counted.
+    Steps { keeps: bool },
+    /// Its streams make a first wave on threads, without logs.
     Wave,
     /// The journal of a run on this thread is checked.
     Check,
     /// The text of such a journal is read and checked.
     Text,
-    /// It is run on threads, and its units call functions of this length.
+    /// It is run on threads without a journal, and its units call functions of this length.
     Calls(Length),
     /// As many calls of this length as it has units are made in a loop, without a runtime.
     Loop(Length),
@@ -41,6 +44,8 @@ impl Work {
         match self {
             Work::Drain => "drained",
             Work::Streams => "on threads",
+            Work::Steps { keeps: true } => "with a journal",
+            Work::Steps { keeps: false } => "without a journal",
             Work::Wave => "a wave alone",
             Work::Check => "checked",
             Work::Text => "read and checked",
@@ -59,6 +64,7 @@ impl Work {
 pub enum Task {
     Drain,
     Streams,
+    Steps { keeps: bool },
     Wave,
     Check(Journal),
     Text(Vec<u8>),
@@ -71,10 +77,11 @@ impl Task {
         match work {
             Work::Drain => Ok(Task::Drain),
             Work::Streams => Ok(Task::Streams),
+            Work::Steps { keeps } => Ok(Task::Steps { keeps }),
             Work::Wave => Ok(Task::Wave),
             Work::Check => {
-                let run = drained(alloc, w, STEPS)?;
-                Ok(Task::Check(run.journal))
+                let run = drained(alloc, w, STEPS, true)?;
+                Ok(Task::Check(kept_journal(run)?))
             }
             Work::Text => Ok(Task::Text(drained_text(alloc, w, STEPS)?)),
             Work::Calls(length) => Ok(Task::Calls(length)),
@@ -85,7 +92,7 @@ impl Task {
     /// What is counted of it.
     pub fn counted(&self) -> Counted {
         match self {
-            Task::Calls(_) | Task::Loop(_) => Counted::Operations,
+            Task::Steps { .. } | Task::Calls(_) | Task::Loop(_) => Counted::Operations,
             _ => Counted::Events,
         }
     }
@@ -123,11 +130,12 @@ pub fn timed<R: Threads + Wait + Sync + Clock>(
     })
 }
 
-// What a task made or judged: a run, a run of which the steps are counted, a journal, or a number of events or operations.
+// What a task made or judged: a run that kept its journal, a run of which the steps are counted, a journal, or a number of events or
+// operations.
 #[derive(Drop)]
 enum Outcome {
     Run(Run),
-    Calls(Run),
+    Steps(Run),
     Journal(Journal),
     Events(u64),
 }
@@ -135,11 +143,18 @@ enum Outcome {
 impl Outcome {
     fn events(&self) -> u64 {
         match self {
-            Outcome::Run(run) => count(&run.journal),
-            Outcome::Calls(run) => count_steps(run.journal.items()),
+            Outcome::Run(run) => count_kept(run),
+            Outcome::Steps(run) => run.steps,
             Outcome::Journal(journal) => count(journal),
             Outcome::Events(events) => *events,
         }
+    }
+}
+
+fn count_kept(run: &Run) -> u64 {
+    match &run.journal {
+        Some(journal) => count(journal),
+        None => 0,
     }
 }
 
@@ -155,12 +170,13 @@ fn carry_out<R: Threads + Wait + Sync>(
     task: &Task,
 ) -> io::Result<Outcome> {
     match task {
-        Task::Drain => Ok(Outcome::Run(drained(alloc, w, STEPS)?)),
-        Task::Streams => Ok(Outcome::Run(threaded(rt, alloc, w, STEPS)?)),
+        Task::Drain => Ok(Outcome::Run(drained(alloc, w, STEPS, true)?)),
+        Task::Streams => Ok(Outcome::Run(threaded(rt, alloc, w, STEPS, true)?)),
+        Task::Steps { keeps } => Ok(Outcome::Steps(threaded(rt, alloc, w, STEPS, *keeps)?)),
         Task::Wave => Ok(Outcome::Events(waved(rt, alloc, w, STEPS)?)),
         Task::Check(journal) => Ok(Outcome::Events(passed(alloc, w, journal)?)),
         Task::Text(text) => Ok(Outcome::Journal(read(alloc, w, text)?)),
-        Task::Calls(length) => Ok(Outcome::Calls(calling(rt, alloc, w, *length, STEPS)?)),
+        Task::Calls(length) => Ok(Outcome::Steps(calling(rt, alloc, w, *length, STEPS)?)),
         Task::Loop(length) => Ok(Outcome::Events(looped_all(w, *length)?)),
     }
 }

@@ -1,6 +1,6 @@
 //! A few steps of each workload.
 
-use crate::calls::{drained_text, journal_of, judged, threaded};
+use crate::calls::{drained_text, journal_of, judged, kept_journal, threaded};
 use crate::loads::{LOADS, Load};
 use abt_check::Verdict;
 use abt_machine::{Journal, Workload};
@@ -50,6 +50,7 @@ fn threaded_verdict<R: Threads + Wait + Sync>(
     alloc: Global,
     w: &Workload,
 ) -> io::Result<Verdict> {
-    let run = threaded(rt, alloc, w, STEPS)?;
-    judged(alloc, w, &run.journal)
+    let run = threaded(rt, alloc, w, STEPS, true)?;
+    let journal = kept_journal(run)?;
+    judged(alloc, w, &journal)
 }

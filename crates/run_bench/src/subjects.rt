@@ -5,8 +5,8 @@ use crate::races::Entry;
 use crate::rounds::Work;
 use crate::turning::Length;
 
-/// Four streams that share nothing, compared with one of them: whole runs, the same with a lock for each object in both, and waves whose
-/// logs are not merged.
+/// Four streams that share nothing, compared with one of them: whole runs, the same with a lock for each object in both, and waves
+/// without logs.
 pub static THREADS: [&[Entry]; 3] = [
     &[
         (Load::One, Work::Streams),
@@ -18,6 +18,18 @@ pub static THREADS: [&[Entry]; 3] = [
         (Load::Four, Work::Streams),
     ],
     &[(Load::One, Work::Wave), (Load::Four, Work::Wave)],
+];
+
+/// Runs that keep no journal, compared with those that do.
+pub static JOURNAL: [&[Entry]; 2] = [
+    &[
+        (Load::One, Work::Steps { keeps: true }),
+        (Load::One, Work::Steps { keeps: false }),
+    ],
+    &[
+        (Load::Four, Work::Steps { keeps: true }),
+        (Load::Four, Work::Steps { keeps: false }),
+    ],
 ];
 
 /// Four streams that share one object, on threads, compared with one thread.

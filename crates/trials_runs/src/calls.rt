@@ -118,18 +118,16 @@ fn is_counted<R: Threads + Wait + Sync>(rt: &R, alloc: Global, w: &Workload) -> 
         calls: AtomicU32::new(0),
     };
     let orders = [StoredOrder::rotating(), StoredOrder::mirroring()];
-    let run = run_streams(rt, alloc, w, &orders, &work, 1_000)?;
-    let is = is_reported(
-        alloc,
-        w,
-        &run.journal,
-        &run.picture,
-        run.outcome,
-        TWICE_REPORT,
-    );
+    let run = run_streams(rt, alloc, w, &orders, &work, 1_000, true)?;
+    let is = is_reported(alloc, w, run.steps, &run.picture, run.outcome, TWICE_REPORT);
     let made = work.calls.load(Ordering::SeqCst) as usize;
-    let verdict = check(alloc, w, &orders, &work, &run.journal)?;
-    Ok(is && made == 8 && count_calls(run.journal.items()) == made && verdict == Verdict::Run)
+    match &run.journal {
+        Some(journal) => {
+            let verdict = check(alloc, w, &orders, &work, journal)?;
+            Ok(is && made == 8 && count_calls(journal.items()) == made && verdict == Verdict::Run)
+        }
+        None => Ok(false),
+    }
 }
 
 fn counted<R: Threads + Wait + Sync>(rt: &R, alloc: Global) -> Result<bool, Fail> {
@@ -158,7 +156,7 @@ fn calls_before<R: Threads + Wait + Sync>(
         before: AtomicU32::new(u32::MAX),
     };
     let orders = [StoredOrder::rotating(), StoredOrder::mirroring()];
-    run_streams(rt, alloc, w, &orders, &work, 1_000)?;
+    run_streams(rt, alloc, w, &orders, &work, 1_000, false)?;
     Ok(work.before.load(Ordering::SeqCst))
 }
 

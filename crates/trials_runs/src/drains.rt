@@ -16,11 +16,17 @@ static SHARED: &str =
 pub(crate) static SHARED_REPORT: &str =
     "unit 0 done:\nunit 1 done:\nunit 2 done:\nunit 3 done:\nunit 4 done:\nunit 5 done:\nunit 6 done:\nunit 7 done:\nunit 8 done:\nunit 9 done:\nunit 10 done:\nunit 11 done:\nunit 12 done:\nunit 13 done:\nunit 14 done:\nunit 15 done:\nunit 16 done:\nunit 17 done:\nunit 18 done:\nunit 19 done:\nunit 20 done:\nunit 21 done:\nunit 22 done:\nunit 23 done:\nunit 24 done:\nunit 25 done:\nunit 26 done:\nunit 27 done:\nunit 28 done:\nunit 29 done:\nunit 30 done:\nunit 31 done:\nunit 32 done:\nunit 33 done:\nunit 34 done:\nunit 35 done:\nunit 36 done:\nunit 37 done:\nunit 38 done:\nunit 39 done:\nunit 40 done: 40\ntally units 41 unborn 0 pool 0 stream 0 blocked 0 done 41 asked 0 access 0 steps 244\nfinished\n";
 
-// Whether the run of a workload in rotation has this report.
-fn is_run(alloc: Global, w: &Workload, steps: u64, report: &str) -> Result<bool, Want> {
+// Whether the run of a workload in rotation has this report, if its journal is kept or if it is not.
+fn is_run(
+    alloc: Global,
+    w: &Workload,
+    steps: u64,
+    keeps: bool,
+    report: &str,
+) -> Result<bool, Want> {
     let orders = [StoredOrder::rotating(), StoredOrder::mirroring()];
-    let run = drain(alloc, w, &orders, steps)?;
-    Ok(is_reported(alloc, w, &run.journal, &run.picture, run.outcome, report))
+    let run = drain(alloc, w, &orders, steps, keeps)?;
+    Ok(is_reported(alloc, w, run.steps, &run.picture, run.outcome, report))
 }
 
 // Appends forty units that add, and the one that joins them all and prints.
@@ -47,10 +53,12 @@ pub(crate) fn shared(alloc: Global) -> Result<Workload, Fail> {
     Ok(read(alloc, text.as_bytes())?)
 }
 
-// Whether their run in rotation has this report.
+// Whether their run in rotation has this report, and the one without a journal too.
 fn share(alloc: Global) -> Result<bool, Fail> {
     let w = shared(alloc)?;
-    Ok(is_run(alloc, &w, 10_000, SHARED_REPORT)?)
+    let kept = is_run(alloc, &w, 10_000, true, SHARED_REPORT)?;
+    let other = is_run(alloc, &w, 10_000, false, SHARED_REPORT)?;
+    Ok(kept && other)
 }
 
 #[test]

@@ -96,7 +96,7 @@ fn is_put_out<R: Threads + Wait + Sync>(
 ) -> Result<bool, Want> {
     let orders = [StoredOrder::rotating(), StoredOrder::mirroring()];
     w.known();
-    let run = run_streams(rt, alloc, w, &orders, &AnyWork, 10_000)?;
+    let run = run_streams(rt, alloc, w, &orders, &AnyWork, 10_000, false)?;
     Ok(put_out(&run.picture, flow))
 }
 

@@ -5,7 +5,7 @@ ghost use Rattle.std.specs.Prelude.{◌≤◌, length};
 use crate::drains::{SHARED_REPORT, shared};
 use abt_machine::{Want, Workload};
 use abt_order::StoredOrder;
-use abt_report::{count_steps, report};
+use abt_report::report;
 use abt_work::AnyWork;
 use hall_waves::run_in_hall;
 use std::alloc::Global;
@@ -27,9 +27,8 @@ fn report_of<R: Threads + Wait + Sync>(
     requires { 2 ≤ length orders.now }
 {
     w.known();
-    let run = run_in_hall(rt, alloc, w, orders, &AnyWork, 10_000)?;
-    let steps = count_steps(run.journal.items());
-    report(alloc, w, &run.picture, run.outcome, steps)
+    let run = run_in_hall(rt, alloc, w, orders, &AnyWork, 10_000, false)?;
+    report(alloc, w, &run.picture, run.outcome, run.steps)
 }
 
 #[test]

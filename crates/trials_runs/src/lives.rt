@@ -3,7 +3,7 @@
 use crate::reports::is_reported;
 use abt_machine::Workload;
 use abt_order::StoredOrder;
-use abt_report::TextFault;
+use abt_report::{TextFault, count_steps};
 use abt_streams::{Wave, read_lives, run_lives};
 use abt_work::AnyWork;
 use abt_workload::read;
@@ -160,8 +160,9 @@ fn is_run<R: Threads + Wait + Sync>(
     let orders = [StoredOrder::rotating(), StoredOrder::mirroring()];
     w.known();
     let run = run_lives(rt, alloc, w, &lives, &orders, &AnyWork, 10_000)?;
+    let steps = count_steps(run.journal.items());
     Ok(
-        is_reported(alloc, w, &run.journal, &run.picture, run.outcome, report)
+        is_reported(alloc, w, steps, &run.picture, run.outcome, report)
             && are_waves(run.waves.items(), waves),
     )
 }

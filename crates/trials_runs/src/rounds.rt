@@ -333,8 +333,11 @@ fn free_orders_are_made_permutations(rt: HostRuntime) -> Result<(), Fail> {
 // Whether that is the journal of the run by these orders.
 fn goes_last_first(alloc: Global, orders: &[StoredOrder; 2]) -> Result<bool, Fail> {
     let w = read(alloc, BY_ORDER.as_bytes())?;
-    let run = drain(alloc, &w, orders, 10_000)?;
-    Ok(is_text_of(alloc, &run.journal, LAST_FIRST))
+    let run = drain(alloc, &w, orders, 10_000, true)?;
+    match &run.journal {
+        Some(journal) => Ok(is_text_of(alloc, journal, LAST_FIRST)),
+        None => Ok(false),
+    }
 }
 
 #[test]

@@ -9,7 +9,7 @@ use crate::reports::is_text_of;
 use abt_commons::{Objects, Plain, PlainPass};
 use abt_machine::{Event, Journal, OrderShape, StreamNo, Want, Workload};
 use abt_order::StoredOrder;
-use abt_stream::{Stream, Turn};
+use abt_stream::{Stream, StreamParts, Turn};
 use abt_work::AnyWork;
 use abt_workload::read;
 use std::alloc::{AllocError, Global};
@@ -207,12 +207,14 @@ fn check_orders(w: &Workload)
 }
 
 // What is seen of a stream: how many events it made, the last of them, and whether it is idle and spent.
-fn seen(stream: &Stream, w: &Workload) -> (usize, Option<Event>, bool, bool)
+fn seen(stream: &Stream, w: &Workload) -> (u64, Option<Event>, bool, bool)
     requires { FitsStream w.now stream.now }
 {
-    let log = stream.log();
-    let last = log.last().copied();
-    (log.len(), last, stream.is_idle(), stream.is_spent(w))
+    let last = match stream.kept() {
+        Some(log) => log.last().copied(),
+        None => None,
+    };
+    (stream.written(), last, stream.is_idle(), stream.is_spent(w))
 }
 
 // What the next turn needs. If memory is refused, the same is seen of the stream as before, and it is asked for once more. That
@@ -283,10 +285,11 @@ fn events(
 ) -> Result<Journal, Want> {
     assert!(rt; 0 < w.streams());
     check_orders(w);
-    let mut stream = Stream::new(alloc, w, StreamNo(0), steps)?;
+    let mut stream = Stream::new(alloc, w, StreamNo(0), steps, true)?;
     let (plain, mut pass) = Plain::make(Objects::place(alloc, w)?);
     drive(rt, &mut stream, &plain, &mut pass, w, orders)?;
-    Ok(Journal::new(stream.into_parts().log.into_items()))
+    let StreamParts { kept, .. } = stream.into_parts();
+    kept.ok_or(Want)
 }
 
 // Whether the events of a row, whose workload has been read, are those that it says.

@@ -108,12 +108,15 @@ fn is_run<R: Threads + Wait + Sync, P: Work + Sync>(
 {
     w.known();
     let orders = [StoredOrder::rotating(), StoredOrder::mirroring()];
-    let run = run_streams(rt, alloc, w, &orders, work, steps)?;
+    let run = run_streams(rt, alloc, w, &orders, work, steps, true)?;
     let is = match report {
-        Some(text) => is_reported(alloc, w, &run.journal, &run.picture, run.outcome, text),
+        Some(text) => is_reported(alloc, w, run.steps, &run.picture, run.outcome, text),
         None => run.outcome == Outcome::Finished,
     };
-    Ok(is && check(alloc, w, &orders, work, &run.journal)? == Verdict::Run)
+    match &run.journal {
+        Some(journal) => Ok(is && check(alloc, w, &orders, work, journal)? == Verdict::Run),
+        None => Ok(false),
+    }
 }
 
 // As `is_run`, of each of several runs of at most 10,000 steps a stream.

@@ -1,47 +1,59 @@
 //! Lists of words, with the command that they say, if they say one.
 
-use abt_words::{Command, WordFault, words};
+use abt_machine::Format;
+use abt_words::{Command, WordFault, allowed_steps, default_steps, words};
 use std::alloc::{AllocError, Global};
 use std::test::Fail;
 
-// A command: to run a file, with the steps of each stream and whether the journal is wanted; to run what is made of so many
-// units; to check the journal of the second file against the workload of the first; and to ask for the flow of a file.
+// A command: to run a file, with the steps of each stream, if they are asked for, and whether the journal is wanted; to run what is
+// made of so many units; to check the journal of the second file against the workload of the first; and to ask for the flow of a file.
 #[derive(Clone, Copy)]
 enum Wanted {
-    Run(&'static str, u64, bool),
+    Run(&'static str, Option<u64>, bool),
     SelfRun(u32),
     Check(&'static str, &'static str),
     Flow(&'static str),
 }
 
 // Words with a comma between each two, and the command that they say.
-static SAID: [(&str, Wanted); 33] = [
-    ("run,f", Wanted::Run("f", 10_000, false)),
-    ("run,run", Wanted::Run("run", 10_000, false)),
-    ("run,-", Wanted::Run("-", 10_000, false)),
-    ("run,f,--journal", Wanted::Run("f", 10_000, true)),
-    ("run,--journal,f", Wanted::Run("f", 10_000, true)),
-    ("run,f,--steps,5", Wanted::Run("f", 5, false)),
-    ("run,--steps,5,f", Wanted::Run("f", 5, false)),
-    ("run,f,--steps=5", Wanted::Run("f", 5, false)),
-    ("run,--steps=5,--journal,f", Wanted::Run("f", 5, true)),
-    ("run,--journal,f,--steps,5", Wanted::Run("f", 5, true)),
-    ("run,f,--steps,1", Wanted::Run("f", 1, false)),
-    ("run,f,--steps,100000", Wanted::Run("f", 100_000, false)),
+static SAID: [(&str, Wanted); 35] = [
+    ("run,f", Wanted::Run("f", None, false)),
+    ("run,run", Wanted::Run("run", None, false)),
+    ("run,-", Wanted::Run("-", None, false)),
+    ("run,f,--journal", Wanted::Run("f", None, true)),
+    ("run,--journal,f", Wanted::Run("f", None, true)),
+    ("run,f,--steps,5", Wanted::Run("f", Some(5), false)),
+    ("run,--steps,5,f", Wanted::Run("f", Some(5), false)),
+    ("run,f,--steps=5", Wanted::Run("f", Some(5), false)),
+    ("run,--steps=5,--journal,f", Wanted::Run("f", Some(5), true)),
+    ("run,--journal,f,--steps,5", Wanted::Run("f", Some(5), true)),
+    ("run,f,--steps,1", Wanted::Run("f", Some(1), false)),
+    (
+        "run,f,--steps,100000",
+        Wanted::Run("f", Some(100_000), false),
+    ),
+    (
+        "run,f,--steps,100001",
+        Wanted::Run("f", Some(100_001), false),
+    ),
+    (
+        "run,f,--steps,16777216",
+        Wanted::Run("f", Some(16_777_216), false),
+    ),
     (
         "run,f,--steps,000000000000000000000000000007",
-        Wanted::Run("f", 7, false),
+        Wanted::Run("f", Some(7), false),
     ),
-    ("run,--,f", Wanted::Run("f", 10_000, false)),
-    ("run,--,-x", Wanted::Run("-x", 10_000, false)),
+    ("run,--,f", Wanted::Run("f", None, false)),
+    ("run,--,-x", Wanted::Run("-x", None, false)),
     (
         "run,--journal,--,--steps",
-        Wanted::Run("--steps", 10_000, true),
+        Wanted::Run("--steps", None, true),
     ),
-    ("run,--,--", Wanted::Run("--", 10_000, false)),
-    ("run,f,--", Wanted::Run("f", 10_000, false)),
-    ("run,f,--steps,7,--", Wanted::Run("f", 7, false)),
-    ("run,a b=c", Wanted::Run("a b=c", 10_000, false)),
+    ("run,--,--", Wanted::Run("--", None, false)),
+    ("run,f,--", Wanted::Run("f", None, false)),
+    ("run,f,--steps,7,--", Wanted::Run("f", Some(7), false)),
+    ("run,a b=c", Wanted::Run("a b=c", None, false)),
     ("self,1", Wanted::SelfRun(1)),
     ("self,126", Wanted::SelfRun(126)),
     ("self,007", Wanted::SelfRun(7)),
@@ -79,7 +91,7 @@ static REFUSED: [&str; 73] = [
     "run,f,--jour",
     "run,f,-journal",
     "run,f,--steps,0",
-    "run,f,--steps,100001",
+    "run,f,--steps,16777217",
     "run,f,--steps,18446744073709551621",
     "run,f,--steps,+5",
     "run,f,--steps,-5",
@@ -162,8 +174,8 @@ fn is_command(command: &Command, wanted: &Wanted) -> bool {
                 steps,
                 journal,
             },
-            Wanted::Run(name, most, wants),
-        ) => file.as_str() == *name && steps == most && journal == wants,
+            Wanted::Run(name, asked, wants),
+        ) => file.as_str() == *name && steps == asked && journal == wants,
         (Command::SelfRun { units }, Wanted::SelfRun(wanted)) => units == wanted,
         (Command::Check { workload, journal }, Wanted::Check(first, second)) => {
             workload.as_str() == *first && journal.as_str() == *second
@@ -190,6 +202,24 @@ fn other_words_say_nothing(rt: HostRuntime) -> Result<(), Fail> {
     assert!(rt; matches!(words(rt.alloc(), &[]), Err(WordFault::Bad)));
     for row in &REFUSED {
         assert!(rt; said(rt.alloc(), row)?.is_none(), "{row}");
+    }
+    Ok(())
+}
+
+// A format, how many steps each stream may make if no word asks for a number, how many a word may ask for, and one step more.
+static LIMITS: [(Format, u64, u64, u64); 3] = [
+    (Format::One, 10_000, 100_000, 100_001),
+    (Format::Two, 10_000, 100_000, 100_001),
+    (Format::Three, 16_777_216, 16_777_216, 16_777_217),
+];
+
+#[test]
+fn formats_limit_steps(rt: HostRuntime) -> Result<(), Fail> {
+    for (format, default, most, beyond) in &LIMITS {
+        assert!(rt; default_steps(*format) == *default);
+        assert!(rt; allowed_steps(*format, None) == Some(*default));
+        assert!(rt; allowed_steps(*format, Some(*most)) == Some(*most));
+        assert!(rt; allowed_steps(*format, Some(*beyond)).is_none());
     }
     Ok(())
 }

@@ -2,7 +2,8 @@
 
 use crate::refusals::refused;
 use crate::writings::is_written;
-use abt_machine::Fault;
+use abt_machine::{Fault, Format};
+use abt_workload::format_of;
 use std::alloc::{AllocError, Global};
 use std::test::Fail;
 
@@ -26,6 +27,19 @@ static LEAST: [(Counts, u32); 15] = [
     ((1, 1, 1, 0, 257, 256), 3),
     ((64, 1024, 1024, 65536, 256, 4096), 3),
     ((1, 1, 1, 0, 65536, 16), 3),
+];
+
+// Texts, and the format by which each is judged.
+static JUDGED: [(&str, Format); 9] = [
+    ("", Format::One),
+    ("abt 1\nstreams 1\n", Format::One),
+    ("abt 2\n", Format::Two),
+    ("abt 3", Format::Three),
+    ("# abt 2\n\n\tabt  3 \nabt 2\n", Format::Three),
+    ("abt 4\n", Format::One),
+    ("abt 3 3\n", Format::One),
+    ("abt\n3\n", Format::One),
+    ("streams 1\nabt 3\n", Format::One),
 ];
 
 // The first lines of a text, how a line begins and goes on behind its number, how many such lines may follow, and the
@@ -90,6 +104,14 @@ fn counted(alloc: Global, version: u32, counts: Counts) -> Result<String, AllocE
     push_units(&mut text, units, each)?;
     text.push_str("end\n")?;
     Ok(text)
+}
+
+#[test]
+fn the_first_line_says_the_format(rt: HostRuntime) -> Result<(), Fail> {
+    for (text, format) in &JUDGED {
+        assert!(rt; format_of(text.as_bytes()) == *format, "{text}");
+    }
+    Ok(())
 }
 
 #[test]

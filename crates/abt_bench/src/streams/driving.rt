@@ -43,13 +43,13 @@ fn stream_of(alloc: Global, w: &Workload) -> io::Result<Stream>
     requires { 0 < w.now.streams }
     ensures { IfOk result (FitsStream w.now) }
 {
-    match Stream::new(alloc, w, StreamNo(0), u64::from(MOST)) {
+    match Stream::new(alloc, w, StreamNo(0), u64::from(MOST), false) {
         Ok(stream) => Ok(stream),
         Err(Want) => Err(no_memory()),
     }
 }
 
-/// How many events stream 0 made until it had nothing to do, and what they took.
+/// How many events stream 0 made until it had nothing to do, and what they took. It does not keep them.
 pub fn stream_time<R: Clock>(rt: &R, alloc: Global, w: &Workload) -> io::Result<(u64, Duration)>
     requires some { 0 < w.now.streams }
     requires stored { (g : ℕ) → IsStored w.now g 0 }
@@ -61,7 +61,7 @@ pub fn stream_time<R: Clock>(rt: &R, alloc: Global, w: &Workload) -> io::Result<
         return Err(no_memory());
     }
     let took = start.elapsed(rt)?;
-    Ok((stream.log().len() as u64, took))
+    Ok((stream.written(), took))
 }
 
 // What the next turn needs.

@@ -12,15 +12,15 @@ run_streams-requires-clause-calls g c = λ lifetimes outlive. subst (λ W. Calls
 pub numbers-requires : goal.numbers-requires
 numbers-requires g c =
     let rows : List Row = c.items.result.now in
-    let pictured = subst (IsPictureOf c.in_ok-w.w c.in_ok-run.run'.journal) (sym c.items.ensures) c.in_ok-run.ensures.picture in
-    shown-each c.args.nodes.now c.in_ok-w.w c.in_ok-w.ensures _ c.in_ok-run.run'.journal c.in_ok-run.run'.outcome c.in_ok-run.ensures.run c.in-Finished.is rows pictured
+    let pictured = subst (IsPictureOf c.in_ok-w.w c.in_ok-run.ensures.run.events) (sym c.items.ensures) c.in_ok-run.ensures.run.pictured in
+    shown-each c.args.nodes.now c.in_ok-w.w c.in_ok-w.ensures _ c.in_ok-run.ensures.run.events c.in_ok-run.run'.outcome c.in_ok-run.ensures.run.holds c.in-Finished.is rows pictured
 
 pub returns-in-Finished : goal.returns-in-Finished
 returns-in-Finished g c =
     let rows : List Row = c.items.result.now in
-    let pictured = subst (IsPictureOf c.in_ok-w.w c.in_ok-run.run'.journal) (sym c.items.ensures) c.in_ok-run.ensures.picture in
+    let pictured = subst (IsPictureOf c.in_ok-w.w c.in_ok-run.ensures.run.events) (sym c.items.ensures) c.in_ok-run.ensures.run.pictured in
     let numbers : Vec ℕ Global = c.in_ok-numbers-in-Finished.field-0 in
     record {
-      numbers = answers-finished c.args.nodes.now c.in_ok-w.w c.in_ok-w.ensures _ c.in_ok-run.run'.journal c.in_ok-run.run'.outcome c.in_ok-run.ensures.run (AreOf c.args.nodes.now) numbers c.in-Finished.is
-          (shown-numbers c.args.nodes.now c.in_ok-w.w c.in_ok-w.ensures _ c.in_ok-run.run'.journal c.in_ok-run.run'.outcome c.in_ok-run.ensures.run c.in-Finished.is rows pictured numbers.items c.in_ok-numbers-in-Finished.ensures);
+      numbers = answers-finished c.args.nodes.now c.in_ok-w.w c.in_ok-w.ensures _ c.in_ok-run.ensures.run.events c.in_ok-run.run'.outcome c.in_ok-run.ensures.run.holds (AreOf c.args.nodes.now) numbers c.in-Finished.is
+          (shown-numbers c.args.nodes.now c.in_ok-w.w c.in_ok-w.ensures _ c.in_ok-run.ensures.run.events c.in_ok-run.run'.outcome c.in_ok-run.ensures.run.holds c.in-Finished.is rows pictured numbers.items c.in_ok-numbers-in-Finished.ensures);
     }

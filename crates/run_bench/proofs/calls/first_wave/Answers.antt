@@ -1,5 +1,5 @@
 -- The wave begins at the start.
-use Rattle.std.proofs.Common.{◌≤◌, Option, None, sym, subst}
+use Rattle.std.proofs.Common.{◌≤◌, false, Option, None, sym, subst}
 use Rattle.std.proofs.lemmas.List.{length-map}
 use Rattle.abt_machine.specs.Stored.{Stored}
 use Rattle.abt_order.specs.Stored.{stored_of}
@@ -15,6 +15,6 @@ run_wave-requires-clause-fleet g c κs within =
     let n = c.args.steps in
     let stored = orders-stored W Z c.known.ensures (subst (λ k. 2 ≤ k) (sym (length-map c.args.orders.now _)) c.requires.orders) in (
       n,
-      crew-is-fleet W Z n (record { workload = W; steps = n; objects = c.in_ok-objects.objects; streams = c.in_ok-streams.streams.items })
-          (crew-started W n c.in_ok-streams.streams.items c.in_ok-objects.objects c.in_ok-streams.ensures c.in_ok-objects.ensures Z c.known.ensures stored),
+      crew-is-fleet W Z n (record { workload = W; steps = n; keeps = false; objects = c.in_ok-objects.objects; streams = c.in_ok-streams.streams.items })
+          (crew-started W n c.in_ok-streams.streams.items c.in_ok-objects.objects c.in_ok-streams.ensures.streams c.in_ok-objects.ensures Z false c.known.ensures stored c.in_ok-streams.ensures.keeps),
     )
