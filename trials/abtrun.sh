@@ -78,6 +78,11 @@ try_bad_words() {
     came "as many steps as there may be" 0 "$hi_report" ""
     call "$program" run --steps=00001 "$hi"
     came "the fewest steps" 0 "$hi_report" ""
+    sed 's/^abt 1$/abt 3/' "$hi" >"$room/third.abt"
+    call "$program" run "$room/third.abt" --steps 16777216
+    came "as many steps as there may be by format 3" 0 "$hi_report" ""
+    call "$program" run "$room/third.abt" --steps 16777217
+    came "more than that" 2 "" "$words_are_bad"
 }
 
 # refused FAULT LINE: the text on standard input is refused so.
