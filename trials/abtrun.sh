@@ -47,11 +47,17 @@ finished' ""
 try_most_steps() {
     printf '%s\n' 'abt 1' 'streams 1' 'pool 0 fifo mpmc' 'sched 0 prio 0' 'stream 0 main 0' 'units 2' 'unit 0 ult at 0' 'revive 1 0' \
         'unit 1 ult at 0' 'revive 0 0' end >"$room/text.abt"
-    call "$program" run "$room/text.abt" --steps 100000
-    came "the most steps" 4 'unit 0 stream 0: !unit-state
+    local report='unit 0 stream 0: !unit-state
 unit 1 done:
 tally units 2 unborn 0 pool 0 stream 1 blocked 0 done 1 asked 0 access 0 steps 100000
-budget 0' ""
+budget 0'
+    call "$program" run "$room/text.abt" --steps 100000
+    came "the most steps" 4 "$report" ""
+    # Its events would take more memory than this, and no event is kept if no journal is printed.
+    call bash -c 'ulimit -v 12000 && exec "$@"' - "$program" run "$room/text.abt" --steps 100000
+    came "the most steps in little memory" 4 "$report" ""
+    call bash -c 'ulimit -v 12000 && exec "$@"' - "$program" run "$room/text.abt" --steps 100000 --journal
+    came "their journal in little memory" 7 "" "abtrun: out of memory"
     call "$program" run "$room/text.abt" --steps 100000 --journal
     holds "the journal of the most steps" [ "$status $(grep -c ' step ' "$room/out")" = "4 100000" ]
 }
