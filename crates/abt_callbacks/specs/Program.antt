@@ -6,8 +6,10 @@ use Rattle.abt_shell.specs.declared.status.Stop.{Stop}
 use Rattle.abt_shell.specs.declared.status.Stop.TheVariants.{BadWords, BadLine, CannotRead, OutOfMemory}
 use Rattle.abt_shell.specs.Calls.{EndsBy, Left, Program}
 use Rattle.abt_shell.specs.Told.{Grew}
+use Rattle.abt_callbacks.specs.declared.fold.FoldShape.{FoldShape}
 use Rattle.abt_callbacks.specs.Folding.{number_limit}
-use Rattle.abt_callbacks.specs.Runs.{plain_sum}
+use Rattle.abt_callbacks.specs.Futures.{CalledFutureValue}
+use Rattle.abt_callbacks.specs.Runs.{IsFolded, plain_sum}
 
 -- the words, and what the call left
 pub record Call : Type 0 where
@@ -40,10 +42,17 @@ pub record AsksSum (words : List Text) : Type 0 where
 abbrev pub sum_line : ℕ → Text
 sum_line n = ended (codes "sum " ++ decimal (plain_sum n))
 
--- the text is the line of the sum that the words ask for
-pub record IsSumLine (words : List Text) (text : Text) : Type 0 where
+-- Workers set the numbers from 1 to n on a future of this fold, each its own, and the text is the line of the sum with which they left it.
+pub record IsLineOf {F : Type 0} (shape_of : F → FoldShape) (May : F → List ℕ → ℕ → Type 0) (fold : F) (workers n : ℕ) (text : Text) : Type 0 where
+  pub future : CalledFutureValue F
+  pub clock : ℕ
+  pub folded : IsFolded shape_of May fold workers n future clock
+  pub line : text ≡ sum_line n
+
+-- the text is the line of the sum that the words ask for, made by as many workers as they ask for
+pub record IsSumLine {F : Type 0} (shape_of : F → FoldShape) (May : F → List ℕ → ℕ → Type 0) (fold : F) (words : List Text) (text : Text) : Type 0 where
   pub asked : AsksSum words
-  pub line : text ≡ sum_line asked.numbers
+  pub made : IsLineOf shape_of May fold asked.workers asked.numbers text
 
 -- Why a call stops before its first write. It reads nothing.
 abbrev pub StopsFold : List Text → Stop → Type 0
@@ -53,16 +62,16 @@ StopsFold words CannotRead = ⊥
 StopsFold words OutOfMemory = AsksSum words
 
 -- the program, of which each status says what `Wrote`, `WrotePrefix` or `StoppedBy` of abt_shell has; it comes to a sum
-abbrev pub program : Call → Program ⊤
-program c = record {
+abbrev pub program : {F : Type 0} → (F → FoldShape) → (F → List ℕ → ℕ → Type 0) → F → Call → Program ⊤
+program shape_of May fold c = record {
   name = codes "abtfold";
   number = λ _. 0;
-  Prints = λ _. IsSumLine c.words;
+  Prints = λ _. IsSumLine shape_of May fold c.words;
   Stops = StopsFold c.words;
 }
 
 -- The exit status has its cause. The words decide whether it is 2, and if no write fails it is 0, 2 or 7.
-pub record IsAnswered (n : ℕ) (c : Call) : Type 0 where
-  pub cause : EndsBy (program c) c.left n
+pub record IsAnswered {F : Type 0} (shape_of : F → FoldShape) (May : F → List ℕ → ℕ → Type 0) (fold : F) (n : ℕ) (c : Call) : Type 0 where
+  pub cause : EndsBy (program shape_of May fold c) c.left n
   pub words : AsksNothing c.words → n ≡ 2
   pub writes : (Grew c.left.out_faults → ⊥) → n ≢ 6

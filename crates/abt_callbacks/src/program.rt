@@ -6,7 +6,7 @@ ghost use Rattle.abt_shell.specs.Calls.{left};
 ghost use Rattle.abt_shell.specs.Told.{IsTold};
 ghost use Rattle.abt_callbacks.specs.declared.fold.FoldShape.TheVariants as shape;
 ghost use Rattle.abt_callbacks.specs.Folding.{number_limit};
-ghost use Rattle.abt_callbacks.specs.Program.{Asks, AsksNothing, IsAnswered, sum_line};
+ghost use Rattle.abt_callbacks.specs.Program.{Asks, AsksNothing, IsAnswered, IsLineOf};
 
 use crate::fold::Fold;
 use crate::folding::fold_on_threads;
@@ -40,7 +40,7 @@ pub fn abtfold<R: Threads + Wait + Sync, K: Sink, E: Sink, F: Fold + Send + Drop
     fold: F,
 ) -> u8
     requires { F.shape fold ≡ shape.Sum }
-    ensures { IsAnswered result (record {
+    ensures { IsAnswered F.shape F.may_return fold result (record {
       words = map string_bytes words.now;
       left = left (0, 0) (K.taken out.old, K.taken out.new) (K.faults out.old, K.faults out.new) (E.taken err.old, E.taken err.new) (E.faults err.old, E.faults err.new);
     }) }
@@ -99,7 +99,7 @@ fn line<R: Threads + Wait + Sync, F: Fold + Send + Drop>(
     requires workers { 1 ≤ workers }
     requires numbers { (1 ≤ n) × (n ≤ number_limit) }
     requires fold { F.shape fold ≡ shape.Sum }
-    ensures { IfOk result (λ text. text.items ≡ sum_line n) }
+    ensures { IfOk result (λ text. IsLineOf F.shape F.may_return fold workers n text.items) }
 {
     let closed = fold_on_threads(rt, alloc, workers, n, fold)?;
     let Some(value) = closed.object.value() else {
