@@ -1,5 +1,0 @@
-pub mod Answers
-pub mod Meshes
-pub mod Rows
-pub mod Sums
-pub mod Wavefronts
