@@ -1,0 +1,29 @@
+# Trials of docs/TUTORIAL.md: each command prints what the page says. `trials/programs` reads this file.
+
+# Writes the page as a script: blocks of `sh` that make files, and a call of `says` for each command of a block of `console`.
+tutorial() {
+    awk '
+        function end_command() { if (command != "") printf "SAID\nsays \"$said\" <<\"COMMAND\"\n%s\nCOMMAND\n", command; command = "" }
+        /^```sh$/ { kind = "sh"; text = ""; next }
+        /^```console$/ { kind = "console"; next }
+        /^```$/ { if (kind == "sh" && text ~ /^cat /) printf "%s", text; end_command(); kind = ""; next }
+        kind == "sh" { text = text $0 "\n" }
+        kind == "console" && /^\$ / { end_command(); command = substr($0, 3); print "IFS= read -r -d \"\" said <<\"SAID\""; next }
+        kind == "console" { print }
+    ' "$root/docs/TUTORIAL.md"
+}
+
+# says TEXT: the command on standard input prints the text.
+says() {
+    local line
+    IFS= read -r line
+    PATH=$folder:$PATH timeout -k 5 "$most" bash -c "$line" >"$room/out" 2>"$room/err"
+    printf '%s' "$1" | cmp -s - "$room/out" && [ ! -s "$room/err" ] && pass || miss "$line" "it prints something else than the page says"
+}
+
+tutorial >"$room/tutorial"
+holds "the page has commands" [ "$(grep -c '^says ' "$room/tutorial")" -gt 10 ]
+mkdir "$room/first"
+cd "$room/first" || return
+. "$room/tutorial"
+cd "$root" || return
