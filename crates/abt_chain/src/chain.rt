@@ -49,6 +49,7 @@ impl Chain {
         }
     }
 
+    #[inline(always)]
     pub fn is_empty(&self) -> bool
         ensures empty { result ≡ (length self.now.units == 0) }
         ensures owed { self.now.owed ≤ length self.now.units }
@@ -57,6 +58,7 @@ impl Chain {
     }
 
     /// Appends the unit.
+    #[inline(always)]
     pub fn push_back(&mut self, unit: Box<Unit>)
         requires free { IsFree unit.value }
         ensures { self.new.units ≡ self.old.units ++ unit.value.owned ∷ [] }
@@ -65,6 +67,7 @@ impl Chain {
     }
 
     /// Takes the first unit.
+    #[inline(always)]
     pub fn take_front(&mut self) -> Option<Box<Unit>>
         ensures none { IfNone result ((self.old.units ≡ []) × (self.new.units ≡ [])) }
         ensures free { IfSome result (λ unit. IsFree unit.value) }
@@ -132,6 +135,7 @@ impl Chain {
     }
 
     /// Appends the unit, which walks no link.
+    #[inline(always)]
     pub fn push_back_counted<L: Ledger>(&mut self, mut unit: Box<Unit>, steps: &mut Steps<L>)
         requires free { IsFree unit.value }
         ensures units { self.new.units ≡ self.old.units ++ unit.value.owned ∷ [] }
@@ -142,6 +146,7 @@ impl Chain {
     }
 
     /// Takes the first unit: one link walked, and one more for each unit of the back part if the front part is empty.
+    #[inline(always)]
     pub fn take_front_counted<L: Ledger>(&mut self, steps: &mut Steps<L>) -> Option<Box<Unit>>
         ensures none { IfNone result ((self.old.units ≡ []) × (self.new.units ≡ [])) }
         ensures free { IfSome result (λ unit. IsFree unit.value) }
@@ -157,6 +162,7 @@ impl Chain {
         Some(unit)
     }
 
+    #[inline(always)]
     fn push_back_by<L: Ledger>(&mut self, unit: Box<Unit>, blank: Blank)
         requires name { blank.name ≡ L.name }
         requires parts { blank.parts ≡ L.parts }
@@ -168,6 +174,7 @@ impl Chain {
         self.push_back_counted(unit, &mut steps);
     }
 
+    #[inline(always)]
     fn take_front_by<L: Ledger>(&mut self, blank: Blank) -> Option<Box<Unit>>
         requires name { blank.name ≡ L.name }
         requires parts { blank.parts ≡ L.parts }

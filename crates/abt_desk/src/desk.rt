@@ -169,6 +169,7 @@ impl Desk {
     }
 
     /// Takes what is asked of the unit: afterwards nothing is asked of it.
+    #[inline(always)]
     pub fn look(&mut self) -> Asks
         ensures { DeskGives self.old act.Look (act.Asks result.cancel (option_map (λ (p : PoolNo). p.0) result.migrate)) self.new }
     {

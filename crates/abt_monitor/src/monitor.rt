@@ -63,6 +63,7 @@ impl Monitor {
     }
 
     /// The unit goes on as the owner if the mutex is free. Else it waits, also if it is itself the owner.
+    #[inline(always)]
     pub fn lock(&mut self, unit: Box<Unit>) -> Option<Box<Unit>>
         requires { IsFree unit.value }
         ensures gives { MonitorGives self.old (Lock unit.value.owned) (given_or Rested result) self.new }
@@ -95,6 +96,7 @@ impl Monitor {
 
     /// The mutex goes to the first unit that waits for it, which comes out, and is free if there is none. `NotOwner`
     /// if it isn't `who`'s.
+    #[inline(always)]
     pub fn unlock(&mut self, who: UnitNo) -> Result<Option<Box<Unit>>, Code>
         ensures gives { MonitorGives self.old (Unlock who.0) (coded_or (given_or Rested) result) self.new }
         ensures free { IfOk result (λ next. IfSome next (λ unit. IsFree unit.value)) }
@@ -195,6 +197,7 @@ impl Monitor {
         }
     }
 
+    #[inline(always)]
     fn is_owner(&self, who: UnitNo) -> bool
         ensures { IsTrue result ↔ (self.now.owner ≡ Some who.0) }
     {
@@ -202,6 +205,7 @@ impl Monitor {
     }
 
     // The mutex goes to the first unit that waits for it, which comes out, and is free if there is none.
+    #[inline(always)]
     fn hand_over(&mut self) -> Option<Box<Unit>>
         ensures new { self.new ≡ handed_over self.old }
         ensures first { option_map (λ (unit : Box UnitValue Global). unit.value.owned) result ≡ first self.old.waiters }

@@ -28,6 +28,7 @@ pub enum HandDue {
 }
 
 /// What is due for the unit in hand of stream `s`, which has this number and position.
+#[inline(always)]
 pub fn hand_due(w: &Workload, s: StreamNo, mark: Mark, unit: UnitNo, position: u32) -> HandDue
     requires valid { IsValid w.now }
     requires stream { s.0 < w.now.streams }
@@ -43,6 +44,7 @@ pub fn hand_due(w: &Workload, s: StreamNo, mark: Mark, unit: UnitNo, position: u
 }
 
 // What is due if nothing was asked of the unit.
+#[inline(always)]
 fn plain(w: &Workload, s: StreamNo, unit: UnitNo, position: u32) -> HandDue
     requires valid { IsValid w.now }
     requires stream { s.0 < w.now.streams }

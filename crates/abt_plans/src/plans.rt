@@ -46,6 +46,7 @@ pub fn step_site(w: &Workload, s: StreamNo, u: UnitNo, at: u32) -> Option<Site>
 }
 
 /// What stream `s` does at operation `op` of the unit in its hand, which has this number and accumulator.
+#[inline(always)]
 pub fn planned(w: &Workload, s: StreamNo, op: Op, unit: UnitNo, acc: u64) -> Plan
     requires valid { IsValid w.now }
     requires stream { s.0 < w.now.streams }

@@ -45,6 +45,7 @@ impl Pool {
     }
 
     /// Puts the unit behind all others.
+    #[inline(always)]
     pub fn put(&mut self, unit: Box<Unit>)
         requires free { IsFree unit.value }
         ensures { PoolGives self.old (Put unit.value.owned) Rested self.new }
@@ -53,6 +54,7 @@ impl Pool {
     }
 
     /// Takes the unit at that end. A FIFO pool is asked for its front alone.
+    #[inline(always)]
     pub fn take(&mut self, side: Side) -> Option<Box<Unit>>
         requires side { HasSide self.old.kind side }
         ensures gives { PoolGives self.old (Take side) (given_or Miss result) self.new }

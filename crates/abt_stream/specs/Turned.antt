@@ -72,6 +72,10 @@ Turned moves W Z old before turn.Moved new after = (w : What) × Made moves W Z 
 Turned moves W Z old before turn.Spent new after = IsSpent W old × (new ≡ old) × (after ≡ before)
 Turned moves W Z old before turn.Worn new after = (new ≡ old) × MetEnd moves W Z old before after × (IsSpent W old → ⊥)
 
+-- there is room for one event, for one frame and its unit, and for one piece of output of the unit in hand
+abbrev pub HasRoom : StreamValue → Type 0
+HasRoom s = (0 < s.rooms.events) × (0 < s.rooms.frames) × (0 < s.rooms.units) × (IsSome s.held.hand → 0 < s.rooms.output)
+
 -- the stream has what one turn needs
 pub record IsReady (W : Parts) (s : StreamValue) : Type 0 where
   pub events : 0 < s.rooms.events

@@ -1,6 +1,6 @@
 //! A unit, its calls, and the link that makes chains of units.
 
-ghost use Rattle.std.specs.Prelude.{◌≡◌, ◌<◌, ◌≤◌, ◌+◌, ◌-◌, ◌^◌, IfOk, IfSome, IsSome, OnErr, OnOk, Some, length, option_map, slice_index, vec_len, vec_capacity};
+ghost use Rattle.std.specs.Prelude.{◌≡◌, ◌<◌, ◌≤◌, ◌+◌, ◌-◌, ◌^◌, ◌↔◌, IfOk, IfSome, IsSome, IsTrue, OnErr, OnOk, Some, length, option_map, slice_index, vec_len, vec_capacity};
 ghost use Rattle.abt_machine.specs.declared.numbers.PoolNo.{PoolNo};
 ghost use Rattle.abt_machine.specs.declared.events.Piece.TheVariants.{Refused};
 ghost use Rattle.abt_machine.specs.Acts.{carrying, moved, received, reborn};
@@ -157,6 +157,14 @@ impl Unit {
         self.body.keys.as_slice()
     }
 
+    /// Whether there is room for one more piece of output.
+    #[inline(always)]
+    pub fn has_room(&self) -> bool
+        ensures { IsTrue result ↔ 0 < self.now.spare }
+    {
+        self.body.output.len() < self.body.output.capacity()
+    }
+
     /// Takes room for one more piece of output, if there is none. If that is out of memory, nothing changes.
     pub fn reserve_output(&mut self) -> Result<(), Want>
         ensures room { OnOk result (0 < self.new.spare) }
@@ -170,6 +178,7 @@ impl Unit {
     }
 
     /// Does the operation at the unit's position.
+    #[inline(always)]
     pub fn step_local(&mut self, w: &Workload)
         requires fits { Fits w.now self.old.owned }
         requires local { IsLocal w.now self.old.owned }
@@ -187,6 +196,7 @@ impl Unit {
     }
 
     /// Goes on to the next operation.
+    #[inline(always)]
     pub fn advance(&mut self)
         requires { self.old.owned.carried.position < 2 ^ 32 - 1 }
         ensures { self.new ≡ record self.old { owned = moved self.old.owned } }
@@ -238,6 +248,7 @@ impl Unit {
 
 impl Unit {
     // Does a local operation.
+    #[inline(always)]
     fn step(&mut self, op: Op)
         requires local { IsSome (after_local op self.old.owned.carried) }
         requires key { IfSome (nature_of op).key (λ k. k < length self.old.owned.carried.keys) }

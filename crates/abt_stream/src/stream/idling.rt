@@ -27,6 +27,7 @@ use abt_unit::Unit;
 impl Stream {
     // Without a unit: the top frame is left, or a pool is visited.
     #[tactic(auto, using(crate::proofs::Stacks::visited_declared))]
+    #[inline(always)]
     pub(super) fn idle<'w, C: Commons<'w>>(
         &mut self,
         commons: &C,
@@ -93,6 +94,7 @@ impl Stream {
     }
 
     // The pool that the round visits next.
+    #[inline(always)]
     fn next_pool(&self) -> PoolNo
         requires { self.now.at < length self.now.order }
         ensures { slice_get self.now.order self.now.at ≡ Some result }
@@ -102,6 +104,7 @@ impl Stream {
 
     // A pool is asked for a unit.
     #[tactic(auto, using(crate::proofs::Calls::take_may, crate::proofs::Answered::for_taker))]
+    #[inline(always)]
     fn visit<'w, C: Commons<'w>>(
         &mut self,
         commons: &C,
@@ -129,6 +132,7 @@ impl Stream {
     }
 
     // What the pool answers.
+    #[inline(always)]
     fn visited(&mut self, stamp: u64, p: PoolNo, answer: Answer) -> Turn
         requires answer { IsForTaker (answer_of answer) }
         requires free { IsFreeAnswer answer }
@@ -161,6 +165,7 @@ impl Stream {
     }
 
     // A unit was taken, which ends the round.
+    #[inline(always)]
     fn took(&mut self, stamp: u64, p: PoolNo, unit: Box<Unit>)
         requires free { IsFree unit.value }
         requires hand { self.old.held.hand ≡ None }

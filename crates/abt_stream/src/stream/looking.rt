@@ -24,6 +24,7 @@ use std::mem;
 impl Stream {
     // What was asked of the taken unit is looked at.
     #[tactic(auto, using(crate::proofs::Calls::look_may))]
+    #[inline(always)]
     pub(super) fn look<'w, C: Commons<'w>>(&mut self, commons: &C, pass: &mut C::Pass) -> Turn
         requires pass { C.is_of commons.now pass.old }
         requires next { IfHeld self.old.held.next (Fits (C.workload commons.now)) }
@@ -54,6 +55,7 @@ impl Stream {
     }
 
     // The unit was looked at.
+    #[inline(always)]
     fn looked(&mut self, stamp: u64, unit: Box<Unit>, asks: Asks)
         requires free { IsFree unit.value }
         requires hand { self.old.held.hand ≡ None }
@@ -71,6 +73,7 @@ impl Stream {
     }
 
     // Where the unit goes by what was asked of it: a cancel goes before a migrate.
+    #[inline(always)]
     fn goes(&mut self, mut unit: Box<Unit>, asks: Asks)
         requires free { IsFree unit.value }
         requires hand { self.old.held.hand ≡ None }

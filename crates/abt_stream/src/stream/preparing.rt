@@ -2,7 +2,7 @@
 
 ghost use Rattle.std.specs.Prelude.{◌≡◌, ◌<◌, ◌+◌, ◌^◌, ◌↔◌, ℕ, [], List, OnOk, OnErr, IsSome, Option, false, ◌⊎◌, IsTrue, length, ◌≢◌, IsPermutation};
 ghost use Rattle.abt_stream.specs.Streams.{FitsShapes, FitsStream, IsIdle};
-ghost use Rattle.abt_stream.specs.Turned.{IsPrepared, IsReady};
+ghost use Rattle.abt_stream.specs.Turned.{HasRoom, IsPrepared, IsReady};
 ghost use Rattle.abt_machine.specs.Rounds.{IsOrder};
 ghost use Rattle.abt_machine.specs.Workloads.{pools_of};
 ghost use Rattle.abt_order.specs.Schedulers.{IsSchedulerOf, IsStored, pool_numbers};
@@ -18,6 +18,7 @@ impl Stream {
 
     /// Takes what one turn needs: room for one event, for one frame, and for one piece of output of the unit in hand, and the
     /// next round's order, if the next event starts a round and none is held.
+    #[inline(always)]
     pub fn prepare(&mut self, w: &Workload, orders: &[StoredOrder]) -> Result<(), Want>
         requires stored { (g : ℕ) → IsStored w.now g (length orders.now) }
         requires fits { FitsStream w.now self.old }
@@ -51,12 +52,47 @@ impl Stream {
             && self.order.is_empty()
     }
 
-    // Room for one event, one frame and its unit, and one piece of output.
+    // Room for one event, one frame and its unit, and one piece of output, which is there in nearly every turn.
+    #[inline(always)]
     fn make_room(&mut self) -> Result<(), Want>
         ensures events { OnOk result (0 < self.new.rooms.events) }
         ensures frames { OnOk result (0 < self.new.rooms.frames) }
         ensures units { OnOk result (0 < self.new.rooms.units) }
         ensures output { OnOk result (IsSome self.new.held.hand → 0 < self.new.rooms.output) }
+        ensures same { self.new ≡ record self.old { rooms = self.new.rooms } }
+    {
+        if self.has_room() {
+            return Ok(());
+        }
+        self.take_room()
+    }
+
+    // Whether there is room for what a turn may write.
+    #[inline(always)]
+    fn has_room(&self) -> bool
+        ensures { IsTrue result → HasRoom self.now }
+    {
+        !self.log.is_full()
+            && self.below.len() < self.below.capacity()
+            && self.framed.len() < self.framed.capacity()
+            && self.has_output_room()
+    }
+
+    // Whether there is room for one more piece of output of the unit in hand, if there is one.
+    #[inline(always)]
+    fn has_output_room(&self) -> bool
+        ensures { IsTrue result → IsSome self.now.held.hand → 0 < self.now.rooms.output }
+    {
+        match &self.current {
+            Current::Running(unit) => unit.has_room(),
+            Current::Taken(_) | Current::Idle => true,
+        }
+    }
+
+    // Takes memory for that room.
+    #[inline(never)]
+    fn take_room(&mut self) -> Result<(), Want>
+        ensures room { OnOk result (HasRoom self.new) }
         ensures same { self.new ≡ record self.old { rooms = self.new.rooms } }
     {
         self.log.reserve()?;

@@ -17,6 +17,7 @@ use abt_unit::Unit;
 impl Stream {
     // The tray's first goes home.
     #[tactic(auto, using(crate::proofs::Calls::put_may))]
+    #[inline(always)]
     pub(super) fn put<'w, C: Commons<'w>>(&mut self, commons: &C, pass: &mut C::Pass) -> Turn
         requires pass { C.is_of commons.now pass.old }
         requires fits { IfFirst self.old.held.tray (λ o os. Fits (C.workload commons.now) o) }

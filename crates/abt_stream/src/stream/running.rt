@@ -31,6 +31,7 @@ use std::mem;
 
 impl Stream {
     // The unit in hand goes on, or ends.
+    #[inline(always)]
     pub(super) fn run<'w, C: Commons<'w>, P: Work>(
         &mut self,
         commons: &C,
@@ -70,6 +71,7 @@ impl Stream {
     }
 
     // What is due for the unit in hand.
+    #[inline(always)]
     pub(super) fn hand_due(&self, w: &Workload) -> HandDue
         requires valid { IsValid w.now }
         requires stream { self.now.number.0 < w.now.streams }
@@ -162,6 +164,7 @@ impl Stream {
     }
 
     // The operation of the unit in hand, which is no call of the user's.
+    #[inline(always)]
     fn operate<'w, C: Commons<'w>>(
         &mut self,
         commons: &C,
@@ -186,6 +189,7 @@ impl Stream {
     }
 
     // The step is about to come.
+    #[inline(always)]
     fn announce<P: Work>(&self, work: &P)
         requires { IsSome self.now.held.hand }
     {
@@ -198,6 +202,7 @@ impl Stream {
     }
 
     // What the operation of the unit in hand asks of the stream.
+    #[inline(always)]
     fn plan(&self, w: &Workload, op: Op) -> Plan
         requires valid { IsValid w.now }
         requires stream { self.now.number.0 < w.now.streams }
@@ -213,6 +218,7 @@ impl Stream {
 
     // The operation of the unit in hand, as it is planned.
     #[tactic(auto, using(crate::proofs::Operated::operations))]
+    #[inline(always)]
     fn step<'w, C: Commons<'w>>(
         &mut self,
         commons: &C,
@@ -258,6 +264,7 @@ fn called(op: Op) -> Option<u32>
 }
 
 // What stream s does at the operation of a unit.
+#[inline(always)]
 fn plan_for(w: &Workload, s: StreamNo, op: Op, unit: &Unit) -> Plan
     requires valid { IsValid w.now }
     requires stream { s.0 < w.now.streams }

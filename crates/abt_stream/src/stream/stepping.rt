@@ -33,6 +33,7 @@ use std::mem;
 
 impl Stream {
     // A local operation of the unit in hand.
+    #[inline(always)]
     pub(super) fn own(&mut self, w: &Workload) -> Turn
         requires can { CanStep self.old }
         requires fits { IfHeld self.old.held.hand (Fits w.now) }
@@ -68,6 +69,7 @@ impl Stream {
     }
 
     // The unit in hand yields.
+    #[inline(always)]
     pub(super) fn yields(&mut self) -> Turn
         requires can { CanStep self.old }
         ensures { IfHeld self.old.held.hand (λ o. StepsAlone self.old (empties (moved o ∷ [])) result self.new o) }
@@ -114,6 +116,7 @@ impl Stream {
     }
 
     // A call that does not take the unit in hand with it.
+    #[inline(always)]
     pub(super) fn ask<'w, C: Commons<'w>>(
         &mut self,
         commons: &C,
@@ -138,6 +141,7 @@ impl Stream {
     }
 
     // What it is answered.
+    #[inline(always)]
     fn heard(&mut self, asking: Asking, stamp: u64, answer: Answer)
         requires can { CanStep self.old }
         requires answer { Suits (asked asking) (answer_of answer) }
@@ -220,6 +224,7 @@ impl Stream {
 
     // A call that takes the unit in hand with it.
     #[tactic(auto, using(crate::proofs::Answered::handing))]
+    #[inline(always)]
     pub(super) fn give<'w, C: Commons<'w>>(
         &mut self,
         commons: &C,
@@ -266,6 +271,7 @@ impl Stream {
 }
 
 // The unit that runs, its number and its position.
+#[inline(always)]
 fn running(current: Current) -> (Box<Unit>, UnitNo, u32)
     requires { IsSome (hand_of current) }
     ensures unit { current ≡ currents.Running result.0 }

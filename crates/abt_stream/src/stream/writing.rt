@@ -10,6 +10,7 @@ use abt_machine::{Code, Event, UnitNo, What};
 
 impl Stream {
     // Writes an event that is not a step into room that was taken before.
+    #[inline(always)]
     pub(super) fn write(&mut self, stamp: u64, what: What)
         requires no_step { is_step what ≡ false }
         requires room { 0 < self.old.rooms.events }
@@ -29,6 +30,7 @@ impl Stream {
     }
 
     // Writes the step of an operation that is no call.
+    #[inline(always)]
     pub(super) fn write_step(&mut self, stamp: u64, unit: UnitNo, at: u32, code: Code)
         requires few { steps_in self.old.log < self.old.budget }
         requires room { 0 < self.old.rooms.events }
@@ -41,6 +43,7 @@ impl Stream {
     }
 
     // Writes a step, which leaves the stream one less to make.
+    #[inline(always)]
     pub(super) fn count_step(&mut self, stamp: u64, what: What)
         requires step { is_step what ≡ true }
         requires few { steps_in self.old.log < self.old.budget }
@@ -62,6 +65,7 @@ impl Stream {
     }
 
     // Whether the stream has a step left.
+    #[inline(always)]
     pub(super) fn may_step(&self) -> bool
         ensures few { IsTrue result → steps_in self.now.log < self.now.budget }
         ensures none { IsFalse result → steps_in self.now.log ≡ self.now.budget }
