@@ -5,5 +5,6 @@ pub mod Locks
 pub mod SplitLocks
 pub mod Stops
 pub mod Storing
+pub mod Tallies
 pub mod Voyages
 pub mod Waves

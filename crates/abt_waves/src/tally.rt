@@ -1,5 +1,8 @@
 //! How many streams of a wave have work or look for some, and how many wait, as one number that changes in one step.
 
+ghost use Rattle.std.specs.Prelude.{◌≡◌, ◌≢◌, ◌<◌, ◌≤◌, ◌+◌, ◌-◌, true};
+ghost use Rattle.abt_waves.specs.Tallies.{HasSomeone};
+
 /// Of the streams that have started.
 #[derive(Clone, Copy)]
 pub(crate) struct Tally {
@@ -31,7 +34,13 @@ impl Tally {
     }
 
     /// One more is active.
-    pub(crate) fn joined(self) -> Tally {
+    pub(crate) fn joined(self) -> Tally
+        ensures active { self.active < 255 → result.active ≡ self.active + 1 }
+        ensures waiting { result.waiting ≡ self.waiting }
+        ensures calls { result.calls ≡ self.calls }
+        ensures over { result.over ≡ self.over }
+        ensures someone { HasSomeone self → HasSomeone result }
+    {
         Tally {
             active: self.active.saturating_add(1),
             ..self
@@ -39,7 +48,12 @@ impl Tally {
     }
 
     /// All that wait are called, and so are active from now on.
-    pub(crate) fn called(self) -> Tally {
+    pub(crate) fn called(self) -> Tally
+        ensures active { self.active + self.waiting ≤ 255 → result.active ≡ self.active + self.waiting }
+        ensures nobody { result.waiting ≡ 0 }
+        ensures calls { result.calls ≢ self.calls }
+        ensures over { result.over ≡ self.over }
+    {
         Tally {
             calls: self.calls.wrapping_add(1),
             active: self.active.saturating_add(self.waiting),
@@ -48,8 +62,16 @@ impl Tally {
         }
     }
 
-    /// One that was active leaves.
-    pub(crate) fn left(self) -> Tally {
+    /// One that was active leaves. The last one ends the wave.
+    pub(crate) fn left(self) -> Tally
+        ensures last { self.active ≤ 1 → result.over ≡ true }
+        ensures called { self.active ≤ 1 → result.calls ≢ self.calls }
+        ensures active { 1 < self.active → result.active ≡ self.active - 1 }
+        ensures waiting { 1 < self.active → result.waiting ≡ self.waiting }
+        ensures calls { 1 < self.active → result.calls ≡ self.calls }
+        ensures over { 1 < self.active → result.over ≡ self.over }
+        ensures someone { HasSomeone result }
+    {
         let active = self.active.saturating_sub(1);
         if active == 0 {
             return self.ended();
@@ -57,8 +79,15 @@ impl Tally {
         Tally { active, ..self }
     }
 
-    /// One that was active waits; or none is active any longer.
-    pub(crate) fn rested(self) -> Tally {
+    /// One that was active waits; or none is active any longer, which ends the wave.
+    pub(crate) fn rested(self) -> Tally
+        ensures last { self.active ≤ 1 → result.over ≡ true }
+        ensures called { self.active ≤ 1 → result.calls ≢ self.calls }
+        ensures active { 1 < self.active → self.over ≢ true → result.active ≡ self.active - 1 }
+        ensures waiting { 1 < self.active → self.over ≢ true → self.waiting < 255 → result.waiting ≡ self.waiting + 1 }
+        ensures calls { 1 < self.active → result.calls ≡ self.calls }
+        ensures someone { HasSomeone result }
+    {
         let left = self.left();
         if left.over {
             return left;
@@ -70,7 +99,11 @@ impl Tally {
     }
 
     // None is active. Those that wait are called, so that they leave.
-    fn ended(self) -> Tally {
+    fn ended(self) -> Tally
+        ensures over { result.over ≡ true }
+        ensures calls { result.calls ≢ self.calls }
+        ensures nobody { (result.active ≡ 0) × (result.waiting ≡ 0) }
+    {
         Tally {
             calls: self.calls.wrapping_add(1),
             active: 0,

@@ -104,7 +104,7 @@ fn turns<R: Wait, P: Work, O: Orders, C: Locked>(
     ensures gone { (first : StreamValue) → HasGone (C.locks locks.now) C.lock w.now (stored_by (O.shapes orders.now) (P.returns work.now)) first stream.old pass.old → HasGone (C.locks locks.now) C.lock w.now (stored_by (O.shapes orders.now) (P.returns work.now)) first stream.new pass.new }
     ensures worn { StopsBy (C.locks locks.now) C.lock stream.new pass.new result }
 {
-    let mut shift = watch.start();
+    let mut shift = watch.start(rt);
     'turns: for _ in rt.forever() {
         match take_turn(rt, w, orders, work, watch, &mut shift, locks, stream, pass) {
             Some(stop) => {

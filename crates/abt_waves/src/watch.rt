@@ -5,7 +5,10 @@
 //! active at once, before they wake. So when none is active, each stream that has not left has looked in vain after the last work of all,
 //! and the wave is over. A stream leaves before that if it is spent, if it is out of memory, or if it has found nothing too often in a row.
 
+ghost use Rattle.std.specs.Prelude.{◌≡◌, Bool, count_by};
+
 use crate::tally::Tally;
+use std::alloc::Global;
 use std::cell::Cell;
 use std::hint::spin_loop;
 use std::sync::Wait;
@@ -20,6 +23,9 @@ const RAREST_CALL: u32 = 1 << 16;
 
 // How many times a waiting stream checks for a call before it sleeps; halved each time no call came, until it finds work.
 const LONGEST_LOOK: u32 = 512;
+
+// How many microseconds a stream that has started waits before its first turn for the next one to start, at most.
+const GATHERING: u64 = 200;
 
 // How many times a stream without work sleeps, a millisecond at most, while some stream has not started.
 const PATIENCE: u32 = 32;
@@ -50,6 +56,7 @@ impl Starts {
 /// The streams that are live in a wave.
 #[derive(Drop)]
 pub(crate) struct Watch {
+    alloc: Global,
     streams: u64,
     started: AtomicU64,
     // Whether a stream has waited in vain for another one to start. Then none waits for that again.
@@ -94,9 +101,10 @@ impl Shift {
 
 impl Watch {
     /// For the streams that are live, none of which has started.
-    pub(crate) fn new(live: &[bool], starts: &Starts) -> Watch {
+    pub(crate) fn new(alloc: Global, live: &[bool], starts: &Starts) -> Watch {
         Watch {
-            streams: live.iter().filter(|live| **live).count() as u64,
+            alloc,
+            streams: live_count(live),
             started: AtomicU64::new(0),
             lacking: AtomicBool::new(starts.lacking.get()),
             tally: AtomicU64::new(0),
@@ -106,8 +114,9 @@ impl Watch {
         }
     }
 
-    /// A stream starts, and is active.
-    pub(crate) fn start(&self) -> Shift {
+    /// A stream starts, and is active. It waits a little for the others, so that they begin together.
+    pub(crate) fn start<R: Wait>(&self, rt: &R) -> Shift {
+        self.touch_memory();
         let _ = self.tally.fetch_update(
             Ordering::SeqCst,
             Ordering::SeqCst,
@@ -115,6 +124,7 @@ impl Watch {
         );
         self.started.fetch_add(1, Ordering::SeqCst);
         self.started.wake_all();
+        self.gather(rt);
         Shift {
             active: true,
             calls: self.tally().calls,
@@ -288,6 +298,27 @@ impl Watch {
         self.asleep.fetch_sub(1, Ordering::SeqCst);
     }
 
+    // Takes memory and gives it back: on a new thread the first time takes longer than the work of a small workload.
+    fn touch_memory(&self) {
+        let _ = Vec::<u64>::with_capacity(self.alloc, 1);
+    }
+
+    // Waits until all streams have started, or until none has for as long as `GATHERING`, unless one was waited for in vain before.
+    fn gather<R: Wait>(&self, rt: &R) {
+        for _ in 0..self.streams {
+            let started = self.started.load(Ordering::SeqCst);
+            if self.lacking.load(Ordering::SeqCst) || started >= self.streams {
+                return;
+            }
+            let low = (started % (1 << 32)) as u32;
+            self.started
+                .park_timeout(rt, low, Duration::from_micros(GATHERING));
+            if self.started.load(Ordering::SeqCst) == started {
+                return;
+            }
+        }
+    }
+
     // Waits while some stream has not started, `PATIENCE` sleeps at most, unless that was in vain before.
     fn await_starts<R: Wait>(&self, rt: &R) {
         for _ in 0..PATIENCE {
@@ -300,6 +331,13 @@ impl Watch {
         }
         self.lacking.store(true, Ordering::SeqCst);
     }
+}
+
+// How many streams are live.
+fn live_count(live: &[bool]) -> u64
+    ensures { result ≡ count_by (λ (b : Bool). b) live.now }
+{
+    live.iter().filter(|live| **live).count() as u64
 }
 
 // The tally with a call of those that wait, if the stream has worked.

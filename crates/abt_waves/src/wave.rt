@@ -88,7 +88,7 @@ pub(crate) fn sail<
     let Ok((locks, passes)) = L::make(rt, alloc, objects, count) else {
         return Err(Want);
     };
-    let watch = Watch::new(live, starts);
+    let watch = Watch::new(alloc, live, starts);
     let jobs = jobs(alloc, &locks, streams, passes, live)?;
     let returned = run_jobs(rt, w, orders, work, &watch, jobs)?;
     starts.note(&watch);

@@ -1,0 +1,7 @@
+-- What a tally of a wave says of who waits.
+use Rattle.std.specs.Prelude.{◌≡◌, ◌<◌, ◌⊎◌, true}
+use Rattle.abt_waves.specs.declared.tally.Tally.{Tally}
+
+-- the wave is over, or who waits has someone active who is to call
+abbrev pub HasSomeone : Tally → Type 0
+HasSomeone tally = (tally.over ≡ true) ⊎ (0 < tally.waiting → 0 < tally.active)
