@@ -1,0 +1,108 @@
+-- Which status a call answers if its cause holds.
+use Rattle.std.proofs.Common.{◌≡◌, ◌⊎◌, ◌≤◌, ℕ, List, Option, inl, inr, refl, sym, subst, arith, length}
+use Rattle.std.specs.Prelude.{IfSome, ⊤}
+use Rattle.abt_machine.specs.Words.{Text}
+use Rattle.abt_shell.specs.declared.status.Stop.TheVariants.{BadWords, BadLine, CannotRead, OutOfMemory}
+use Rattle.abt_shell.specs.declared.status.Wrong.{Wrong}
+use Rattle.abt_shell.specs.Calls.{EndsBy, HasReadFault, Holds}
+use Rattle.abt_shell.specs.Status.{Status, Concluded, Stopped, CannotWrite, number_of}
+use Rattle.abt_shell.specs.Told.{Grew}
+use Rattle.abt_shell.proofs.Calls.{reads-well, writes-well}
+use Rattle.abt_shell.proofs.Fetched.{of-observed}
+use Rattle.abt_compute.specs.Answers.{Answers, HasBadLine, IsFit, IsKnown, IsList, IsShort, Shows}
+use Rattle.abt_compute.specs.Files.{Has, IsTooLong, IsWrongLine, list_limit, text_limit}
+use Rattle.abt_compute.specs.Numbers.{Lists}
+use Rattle.abt_compute.specs.Program.{AskSuch, Call, IsAnswered, MissesFiles, program}
+use Rattle.abt_compute.specs.Questions.{Question, Primes, Queens, Subsequence, Sort, Picture, Turns, Asks, AsksNothing}
+use Rattle.abt_compute.proofs.Asking.{one-question}
+use Rattle.abt_compute.proofs.Cutting.{no-list}
+
+-- Files that are as they should be have no bad line.
+
+short-not-long : (told : Option Text) (line : ℕ) (w : Wrong) → Shows told (IsShort text_limit) → IfSome told (λ text. IsTooLong text_limit text line w) → ⊥
+short-not-long told line w shows bad =
+    let long = of-observed (λ text. IsTooLong text_limit text line w) told shows.bytes shows.there bad in
+    let a = shows.is in let b = long.many in omega arith
+
+list-not-bad : (text : Text) (line : ℕ) (w : Wrong) → IsList text → IsTooLong list_limit text line w ⊎ IsWrongLine text line w → ⊥
+list-not-bad text line w list (inl long) = let a = list.short in let b = long.many in omega arith
+list-not-bad text line w list (inr wrong) = no-list text list.numbers line list.lists wrong.no_number
+
+fit-not-bad : (file_of : Text → Option Text) (q : Question) (line : ℕ) (w : Wrong) → IsFit file_of q → HasBadLine file_of q line w → ⊥
+fit-not-bad file_of (Primes n) line w fit bad = bad
+fit-not-bad file_of (Queens n) line w fit bad = bad
+fit-not-bad file_of (Subsequence first second) line w fit (inl bad) = short-not-long (file_of first) line w fit.0 bad
+fit-not-bad file_of (Subsequence first second) line w fit (inr bad) = short-not-long (file_of second) line w fit.1 bad
+fit-not-bad file_of (Sort file) line w fit bad =
+    list-not-bad fit.bytes line w fit.is (of-observed (λ text. IsTooLong list_limit text line w ⊎ IsWrongLine text line w) (file_of file) fit.bytes fit.there bad)
+fit-not-bad file_of (Picture width height) line w fit bad = bad
+fit-not-bad file_of (Turns nodes turns) line w fit bad = bad
+
+-- Files of which there is an answer are as they should be.
+
+shows-short : (told : Option Text) (most : ℕ) (bytes : Text) → Shows told (λ text. ⊤) → Has told most bytes → Shows told (IsShort most)
+shows-short told most bytes known has =
+    let same : bytes ≡ known.bytes = of-observed (λ text. bytes ≡ text) told known.bytes known.there has.are in
+    record { bytes = known.bytes; there = known.there; is = subst (λ text. length text ≤ most) same has.few }
+
+shows-list : (told : Option Text) (bytes : Text) (numbers : List ℕ) → Shows told (λ text. ⊤) → Has told list_limit bytes → Lists bytes numbers → Shows told IsList
+shows-list told bytes numbers known has lists =
+    let same : bytes ≡ known.bytes = of-observed (λ text. bytes ≡ text) told known.bytes known.there has.are in
+    record { bytes = known.bytes; there = known.there; is = subst IsList same (record { short = has.few; numbers = numbers; lists = lists }) }
+
+answered-fit : (file_of : Text → Option Text) (q : Question) (text : Text) → IsKnown file_of q → Answers file_of q text → IsFit file_of q
+answered-fit file_of (Primes n) text known answer = tt
+answered-fit file_of (Queens n) text known answer = tt
+answered-fit file_of (Subsequence first second) text known answer =
+    (shows-short (file_of first) text_limit answer.a (known first (inl refl)) answer.one, shows-short (file_of second) text_limit answer.b (known second (inr refl)) answer.other)
+answered-fit file_of (Sort file) text known answer = shows-list (file_of file) answer.has.bytes answer.numbers (known file refl) answer.has.has answer.has.lists
+answered-fit file_of (Picture width height) text known answer = tt
+answered-fit file_of (Turns nodes turns) text known answer = tt
+
+-- What is so of the question that the words ask is so of each question that they ask.
+asked-is : (words : List Text) (Is : Question → Type 0) (q : Question) (streams : ℕ) → Asks words q streams → AskSuch words Is → Is q
+asked-is words Is q streams asks such = subst Is (one-question words such.question q such.streams streams such.asks asks) such.is
+
+-- the answer to a question is written
+shown : (s : Status ⊤) (c : Call) (q : Question) (streams : ℕ) → Holds (program c) c.left s → Asks c.words q streams → IsFit c.file q → (Grew c.left.read_faults → ⊥) → (Grew c.left.out_faults → ⊥)
+    → (number_of (λ _. 0) s ≡ 0) ⊎ (number_of (λ _. 0) s ≡ 7)
+shown (Concluded done) c q streams h asks fit still quiet = inl refl
+shown (Stopped BadWords) c q streams h asks fit still quiet = absurd (h.cause q streams asks)
+shown (Stopped (BadLine line w)) c q streams h asks fit still quiet = absurd (fit-not-bad c.file q line w fit (asked-is c.words (λ u. HasBadLine c.file u line w) q streams asks h.cause))
+shown (Stopped CannotRead) c q streams h asks fit still quiet = absurd (still h.cause.1)
+shown (Stopped OutOfMemory) c q streams h asks fit still quiet = inr refl
+shown CannotWrite c q streams h asks fit still quiet = absurd (quiet h.faults)
+
+-- files that are not as they should be are refused
+refuses : (s : Status ⊤) (c : Call) (q : Question) (streams : ℕ) → Holds (program c) c.left s → Asks c.words q streams → IsKnown c.file q → (IsFit c.file q → ⊥) → (Grew c.left.read_faults → ⊥)
+    → (number_of (λ _. 0) s ≡ 3) ⊎ (number_of (λ _. 0) s ≡ 7)
+refuses (Concluded done) c q streams h asks known unfit still = absurd (unfit (answered-fit c.file q h.text known (asked-is c.words (λ u. Answers c.file u h.text) q streams asks h.prints)))
+refuses CannotWrite c q streams h asks known unfit still = absurd (unfit (answered-fit c.file q h.text known (asked-is c.words (λ u. Answers c.file u h.text) q streams asks h.prints)))
+refuses (Stopped BadWords) c q streams h asks known unfit still = absurd (h.cause q streams asks)
+refuses (Stopped (BadLine line w)) c q streams h asks known unfit still = inl refl
+refuses (Stopped CannotRead) c q streams h asks known unfit still = absurd (still h.cause.1)
+refuses (Stopped OutOfMemory) c q streams h asks known unfit still = inr refl
+
+-- words that ask for nothing are refused
+refuses-words : (s : Status ⊤) (c : Call) → Holds (program c) c.left s → AsksNothing c.words → (number_of (λ _. 0) s ≡ 2) ⊎ (number_of (λ _. 0) s ≡ 7)
+refuses-words (Concluded done) c h none = absurd (none h.prints.question h.prints.streams h.prints.asks)
+refuses-words CannotWrite c h none = absurd (none h.prints.question h.prints.streams h.prints.asks)
+refuses-words (Stopped BadWords) c h none = inl refl
+refuses-words (Stopped (BadLine line w)) c h none = absurd (none h.cause.question h.cause.streams h.cause.asks)
+refuses-words (Stopped CannotRead) c h none = absurd (none h.cause.0.question h.cause.0.streams h.cause.0.asks)
+refuses-words (Stopped OutOfMemory) c h none = inr refl
+
+-- a call that ended with this exit status is answered
+pub answered : (n : ℕ) (c : Call) → EndsBy (program c) c.left n → MissesFiles n c → (HasReadFault c.left → (n ≡ 5) ⊎ (n ≡ 7)) → IsAnswered n c
+answered n c ends absent faulty = by ends.0 ends.1 ends.2 where
+  by : (s : Status ⊤) → n ≡ number_of (λ _. 0) s → Holds (program c) c.left s → IsAnswered n c
+  by s is h = subst (λ m. IsAnswered m c) (sym is) (record {
+    cause = (s, refl, h);
+    complete = λ q streams asks fit still quiet. shown s c q streams h asks fit still quiet;
+    texts = λ q streams asks known unfit still. refuses s c q streams h asks known unfit still;
+    words = refuses-words s c h;
+    absent = subst (λ m. MissesFiles m c) is absent;
+    reads = reads-well (program c) c.left (λ v e. absurd (omega arith)) (λ cause. cause.1) s h;
+    faulty = subst (λ m. HasReadFault c.left → (m ≡ 5) ⊎ (m ≡ 7)) is faulty;
+    writes = writes-well (program c) c.left (λ v e. absurd (omega arith)) s h;
+  })

@@ -1,0 +1,7 @@
+pub mod Asking
+mod Cutting
+mod Ended
+mod Few
+mod Fetching
+mod Stopping
+mod Within

@@ -1,0 +1,5 @@
+pub mod Answers
+pub mod Files
+pub mod Numbers
+pub mod Program
+pub mod Questions
