@@ -23,7 +23,9 @@ says() {
 
 tutorial >"$room/tutorial"
 holds "the page has commands" [ "$(grep -c '^says ' "$room/tutorial")" -gt 10 ]
-mkdir "$room/first"
-cd "$room/first" || return
+if ! { mkdir "$room/hour" && cd "$room/hour"; }; then
+    miss folder "no folder can be made"
+    return
+fi
 . "$room/tutorial"
 cd "$root" || return
