@@ -202,7 +202,7 @@ try_turns() {
 try_bad_words() {
     local words
     for words in '' primes 'primes 0' 'primes 10000001' 'primes -3' 'primes +3' 'primes 3x' 'primes 1 2' 'primes 18446744073709551617' \
-        queens 'queens 0' 'queens 13' 'queens 8 8' 'Queens 8' 'queensx 8' '8 queens' lcs 'lcs f' 'lcs f f f' mergesort 'mergesort f f' \
+        queens 'queens 0' 'queens 13' 'queens 8 8' 'Queens 8' 'queensx 8' '8 queens' lcs 'lcs f' 'lcs f f f' 'lcs - -' mergesort 'mergesort f f' \
         mandelbrot 'mandelbrot 3' 'mandelbrot 0 3' 'mandelbrot 3 0' 'mandelbrot 4097 3' 'mandelbrot 3 4097' 'mandelbrot 3 4 5' \
         turns 'turns 3' 'turns 0 3' 'turns 3 0' 'turns 65537 3' 'turns 3 65537' 'turns 3 4 5' \
         'primes 9 --streams' 'primes 9 --streams 0' 'primes 9 --streams 65' 'primes 9 --streams +4' 'primes 9 --streams=4' \

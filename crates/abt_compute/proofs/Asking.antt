@@ -79,6 +79,7 @@ same-data (Queens n) (Turns w1 h1) own more rest e first second = cc
 same-data (Subsequence x y) (Primes n1) own more rest e first second = cc
 same-data (Subsequence x y) (Queens n1) own more rest e first second = cc
 same-data (Subsequence x y) (Subsequence x1 y1) own more rest e first second =
+    let a = first.are in let b = second.are in
     let e1 : x ≡ x1 = cc in let e2 : y ≡ y1 = cc in ap (λ z. Subsequence z y) e1 ∙ ap (λ z. Subsequence x1 z) e2
 same-data (Subsequence x y) (Sort f1) own more rest e first second = cc
 same-data (Subsequence x y) (Picture w1 h1) own more rest e first second = cc
@@ -117,7 +118,7 @@ data_count kernel.Turns = 2
 rest-is : (q : Question) (own more : List Text) → Begins own q more → drop (data_count (kernel_of q)) own ≡ more
 rest-is (Primes n) own more begins = ap (drop 1) begins.are
 rest-is (Queens n) own more begins = ap (drop 1) begins.are
-rest-is (Subsequence first second) own more begins = ap (drop 2) begins
+rest-is (Subsequence first second) own more begins = ap (drop 2) begins.are
 rest-is (Sort file) own more begins = ap (drop 1) begins
 rest-is (Picture width height) own more begins = ap (drop 2) begins.are
 rest-is (Turns nodes turns) own more begins = ap (drop 2) begins.are

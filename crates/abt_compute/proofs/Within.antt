@@ -4,7 +4,7 @@ use Rattle.abt_machine.specs.Words.{Text}
 use Rattle.abt_compute.specs.Questions.{Question, Primes, Queens, Subsequence, Sort, Picture, Turns, Asks, AsksStreams, Begins, IsWithin, streams_limit}
 
 begins-within : (q : Question) (own more : List Text) → Begins own q more → IsWithin q
-begins-within (Primes n) own more begins = begins.number.3
+begins-within (Primes n) own more begins = (begins.number.2, begins.number.3)
 begins-within (Queens n) own more begins = (begins.number.2, begins.number.3)
 begins-within (Subsequence first second) own more begins = tt
 begins-within (Sort file) own more begins = tt

@@ -93,11 +93,16 @@ pub record SaysTwo (most : ℕ) (words : List Text) (n m : ℕ) (more : List Tex
   pub one : SaysNumber most first n
   pub other : SaysNumber most second m
 
+-- they begin with the names of two files, and not both are the standard input
+pub record SaysFiles (words : List Text) (first second : Text) (more : List Text) : Type 0 where
+  pub are : words ≡ first ∷ second ∷ more
+  pub one_input : first ≡ codes "-" → second ≡ codes "-" → ⊥
+
 -- the words after a name begin with the data of its computation, and more follow
 abbrev pub Begins : List Text → Question → List Text → Type 0
 Begins words (Primes n) more = SaysOne prime_limit words n more
 Begins words (Queens n) more = SaysOne queen_limit words n more
-Begins words (Subsequence first second) more = words ≡ first ∷ second ∷ more
+Begins words (Subsequence first second) more = SaysFiles words first second more
 Begins words (Sort file) more = words ≡ file ∷ more
 Begins words (Picture width height) more = SaysTwo side_limit words width height more
 Begins words (Turns nodes turns) more = SaysTwo turn_limit words nodes turns more
@@ -130,7 +135,7 @@ AsksNothing words = (q : Question) (streams : ℕ) → Asks words q streams → 
 
 -- the numbers of a question are as words can ask for them
 abbrev pub IsWithin : Question → Type 0
-IsWithin (Primes n) = n ≤ prime_limit
+IsWithin (Primes n) = (0 < n) × (n ≤ prime_limit)
 IsWithin (Queens n) = (0 < n) × (n ≤ queen_limit)
 IsWithin (Subsequence first second) = ⊤
 IsWithin (Sort file) = ⊤

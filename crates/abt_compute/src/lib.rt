@@ -1,5 +1,6 @@
 //! The top call of a program that computes on threads: how many primes are below a number, in how many ways queens stand on a board, how
-//! long the longest common subsequence of two files is, the numbers of a file in order, and a picture of the Mandelbrot set.
+//! long the longest common subsequence of two files is, the numbers of a file in order, a picture of the Mandelbrot set, and the sum of
+//! turned words.
 #![tactic(auto)]
 
 mod answers;

@@ -2,7 +2,7 @@
 
 ghost use Rattle.std.specs.Prelude.{◌≡◌, ◌<◌, ◌≤◌, ℕ, List, MatchOption, map, string_bytes};
 ghost use Rattle.abt_machine.specs.Words.{Text};
-ghost use Rattle.abt_compute.specs.Questions.{Asks, AsksNothing, AsksStreams, Begins, IsNoKernel, IsWithin, Lacks, SaysOne, SaysTwo, kernel_of as kernel_of_question, kernel_word, streams_limit, question_of};
+ghost use Rattle.abt_compute.specs.Questions.{Asks, AsksNothing, AsksStreams, Begins, IsNoKernel, IsWithin, Lacks, SaysFiles, SaysOne, SaysTwo, kernel_of as kernel_of_question, kernel_word, streams_limit, question_of};
 
 use abt_words::number;
 
@@ -92,6 +92,20 @@ fn two_numbers(words: &[String], most: u64) -> Option<(u32, u32, &[String])>
     Some((n as u32, m as u32, more))
 }
 
+// The names of two files that the first two words are, unless both are the standard input, and the words after them.
+fn two_files(words: &[String]) -> Option<(&str, &str, &[String])>
+    ensures { MatchOption result
+        ((first second : Text) (more : List Text) → SaysFiles (map string_bytes words.now) first second more → ⊥)
+        (λ found. SaysFiles (map string_bytes words.now) found.0.now found.1.now (map string_bytes found.2.now)) }
+{
+    let (first, more) = words.split_first()?;
+    let (second, more) = more.split_first()?;
+    if first.as_str() == "-" && second.as_str() == "-" {
+        return None;
+    }
+    Some((first.as_str(), second.as_str(), more))
+}
+
 // What the words after the name of a computation begin with, and the words after that.
 fn begin<'a>(kernel: Kernel, words: &'a [String]) -> Option<(Asked<'a>, &'a [String])>
     ensures { MatchOption result
@@ -107,13 +121,10 @@ fn begin<'a>(kernel: Kernel, words: &'a [String]) -> Option<(Asked<'a>, &'a [Str
             let (n, words) = one_number(words, QUEEN_LIMIT)?;
             Some((Asked::Queens(n), words))
         }
-        Kernel::Subsequence => match words {
-            [first, second, words @ ..] => Some((
-                Asked::Subsequence(first.as_str(), second.as_str()),
-                words,
-            )),
-            _ => None,
-        },
+        Kernel::Subsequence => {
+            let (first, second, words) = two_files(words)?;
+            Some((Asked::Subsequence(first, second), words))
+        }
         Kernel::Sort => match words {
             [file, words @ ..] => Some((Asked::Sort(file.as_str()), words)),
             _ => None,

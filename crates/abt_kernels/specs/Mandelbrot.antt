@@ -1,4 +1,4 @@
--- The Mandelbrot set: the points c of the plane from which z := z² + c, begun at 0, stays within the circle of radius 2.
+-- The Mandelbrot set: the points c of the plane for which z := z² + c, begun at 0, stays within the circle of radius 2.
 use Rattle.std.specs.Prelude.{ℕ, zero, suc, ℤ, pos, ◌≡◌, ◌+ℤ◌, ◌-ℤ◌, ◌*ℤ◌, ◌*◌, ◌/◌, ◌<◌, ◌≤◌, List, Bool, true, false, if◌then◌else◌, int_le, map}
 use Rattle.std.specs.Int.RustNames.{int_div, unsigned_abs}
 use Rattle.std.specs.List.{range_with_len}
@@ -21,7 +21,7 @@ IsNear n z = (unsigned_abs z.x ≤ n * one) × (unsigned_abs z.y ≤ n * one)
 abbrev pub origin : Point
 origin = record { x = pos 0; y = pos 0 }
 
--- z² + c
+-- z² + c, each product rounded
 abbrev pub next : Point → Point → Point
 next c z = record { x = product z.x z.x -ℤ product z.y z.y +ℤ c.x; y = pos 2 *ℤ product z.x z.y +ℤ c.y }
 
