@@ -1,25 +1,60 @@
 //! Counters behind a booth: stamps and answers, threads, and a booth that is closed as it was made.
 
 ghost use Rattle.std.specs.Prelude.{◌≡◌, ◌≤◌, ◌^◌};
+ghost use Rattle.std.specs.List.{All};
 ghost use Rattle.abt_booth.specs.Seats.{number_of, IsSeatOf};
 
-use abt_booth::{Booth, Called, Seat};
+use abt_booth::{Booth, Called, Object, Seat};
 use booth_caller::{Counter, count};
+use std::hint::spin_loop;
 use std::process::Abort;
 use std::sync::Wait;
+use std::thread;
+use std::thread::Threads;
 use weave_caller::add_twice;
 
 // The last stamp.
 const LAST: u64 = 1 << 62;
 
 // The least stamp that a call must not have, what it adds, and its stamp and answer, if the clock is not worn.
-static CALLS: [(u64, u64, Option<(u64, u64)>); 5] = [
+static CALLS: [(u64, u64, Option<(u64, u64)>); 7] = [
     (0, 5, Some((1, 5))),
     (5, 1, Some((6, 6))),
     (0, 1, Some((7, 7))),
     (LAST - 1, 1, Some((LAST, 8))),
     (0, 1, None),
+    (LAST, 2, None),
+    (0, 1, None),
 ];
+
+// How many callers meet at a booth whose clock is at its last stamp.
+const CALLERS: u32 = 8;
+
+// How many turns of a loop a slow act takes, more than a thread needs to start.
+const SLOW: u32 = 10_000_000;
+
+// An object that takes long for each act, and answers it.
+#[derive(Drop)]
+struct Slow;
+
+impl Object for Slow {
+    type Act = u64;
+
+    type Answer = u64;
+
+    ghost allowed = { λ _ _. Unit {0} };
+
+    ghost does = { λ _ _ _ _. Unit {0} };
+
+    ghost keeps = { λ _ _ _ _ _ _ _. tt };
+
+    fn run(&mut self, act: u64) -> u64 {
+        for _ in 0..SLOW {
+            spin_loop();
+        }
+        act
+    }
+}
 
 // The stamp and the answer of a call. A worn clock hands the number back.
 fn ask<R: Wait + Abort>(
@@ -95,4 +130,40 @@ fn make_gives_all_seats_or_hands_the_object_back(rt: HostRuntime) {
         }
         Err(counter) => assert_eq!(rt; counter.sum, 7),
     }
+}
+
+// Each caller calls once on a thread of its own.
+fn call_each<R: Threads + Wait + Sync>(rt: &R, booth: &Booth<Slow>, seats: &mut [Seat<Slow>])
+    requires { All (IsSeatOf booth.now) seats.old }
+{
+    let threads = seats.len();
+    if threads == 0 {
+        return;
+    }
+    thread::for_each_mut(
+        rt,
+        seats,
+        threads,
+        &|_, seat: &mut Seat<Slow>|
+            requires { IsSeatOf booth.now seat.now }
+            ensures { IsSeatOf booth.entry.now seat.exit.now }
+        { call_once(rt, booth, seat) },
+    );
+}
+
+// A call that has the last stamp, or none.
+fn call_once<R: Wait>(rt: &R, booth: &Booth<Slow>, seat: &mut Seat<Slow>)
+    requires { IsSeatOf booth.now seat.old }
+    ensures { IsSeatOf booth.now seat.new }
+{
+    booth.call(rt, seat, LAST - 1, 1);
+}
+
+// The act of the first caller takes long, so that the others sleep. If one of them did not wake the next, the test would not end.
+#[test]
+fn each_caller_is_answered_once_the_clock_is_worn(rt: HostRuntime) {
+    let Ok((booth, mut seats)) = Booth::make(rt.alloc(), Slow, CALLERS) else {
+        panic!(rt; "no memory")
+    };
+    call_each(&rt, &booth, seats.as_mut_slice());
 }

@@ -3,8 +3,9 @@
 ghost use Rattle.std.specs.Prelude.{◌≡◌, ◌<◌, length, true};
 ghost use Rattle.abt_callbacks.specs.Rings.{ends_of};
 
-use abt_callbacks::{KeyRing, RING_LIMIT, StoredEnd};
+use abt_callbacks::{End, KeyRing, RING_LIMIT, StoredEnd};
 use std::process::Abort;
+use std::sync::atomic::{AtomicU32, Ordering};
 use std::test::Fail;
 
 fn same(value: u64) -> u64
@@ -47,7 +48,7 @@ fn run_rounds<R: Abort>(rt: &R, ring: &mut KeyRing, keys: u32, rounds: &[Round])
 }
 
 // The ring ends with these answers.
-fn ends_with<R: Abort>(rt: &R, ring: &mut KeyRing, answers: &[u64])
+fn ends_with<R: Abort, E: End>(rt: &R, ring: &mut KeyRing<E>, answers: &[u64])
     ensures { ends_of ring.new ≡ ends_of ring.old }
 {
     let answered = ring.end();
@@ -72,5 +73,40 @@ fn rings_call_for_the_last_values_in_order(rt: HostRuntime) -> Result<(), Fail> 
         let mut ring = KeyRing::new(alloc, ends)?;
         run_rounds(&rt, &mut ring, keys as u32, rounds);
     }
+    Ok(())
+}
+
+// A function that counts its calls, and answers the number that it is called for.
+#[derive(Drop)]
+struct CountedEnd<'a> {
+    calls: &'a AtomicU32,
+}
+
+impl End for CountedEnd<'_> {
+    ghost use Rattle.std.specs.Prelude.{◌≡◌};
+
+    ghost may_answer = { λ _ value answer. answer ≡ value };
+
+    fn answer(&self, value: u64) -> u64 {
+        self.calls.fetch_add(1, Ordering::SeqCst);
+        value
+    }
+}
+
+#[test]
+fn a_ring_calls_a_function_once_for_each_value(rt: HostRuntime) -> Result<(), Fail> {
+    let alloc = rt.alloc();
+    let (first, second) = (AtomicU32::new(0), AtomicU32::new(0));
+    let ends = vec![in alloc; CountedEnd { calls: &first }, CountedEnd { calls: &second }]?;
+    let mut ring = KeyRing::new(alloc, ends)?;
+    ring.set(1, 4);
+    ring.set(1, 5);
+    ends_with(&rt, &mut ring, &[5]);
+    ends_with(&rt, &mut ring, &[]);
+    ring.set(1, 6);
+    ring.set(0, 6);
+    ends_with(&rt, &mut ring, &[6, 6]);
+    let calls = (first.load(Ordering::SeqCst), second.load(Ordering::SeqCst));
+    assert_eq!(rt; calls, (1, 2));
     Ok(())
 }
