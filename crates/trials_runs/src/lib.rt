@@ -2,6 +2,8 @@
 #![tactic(auto)]
 
 #[cfg(test)]
+mod budgets;
+#[cfg(test)]
 mod calls;
 #[cfg(test)]
 mod drains;
@@ -20,4 +22,8 @@ mod rounds;
 #[cfg(test)]
 mod turns;
 #[cfg(test)]
+mod waits;
+#[cfg(test)]
 mod waves;
+#[cfg(test)]
+mod works;
