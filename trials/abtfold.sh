@@ -76,6 +76,18 @@ try_writing() {
     came "standard input is not read" 0 "sum 5050" ""
 }
 
+# Those who wait for a booth that is held long sleep, and do not look at it again and again: in a test whose program `rt ci` leaves.
+try_sleeps() {
+    local tests=$root/crates/trials_booth/out/trials_booth_tests
+    if [ ! -x "$tests" ]; then
+        skip "callers of a booth" "there is no $tests: ./test makes it"
+        return
+    fi
+    meddled TRIAL_SLEEPS="$room/count" "$tests" counters::each_caller_is_answered_once_the_clock_is_worn
+    holds "the callers of a booth are answered" [ "$status" = 0 ]
+    holds "the callers of a booth sleep" [ "$(cat "$room/count")" -lt 1000 ]
+}
+
 if ! make_meddler; then
     miss meddle "trials/meddle.c cannot be compiled"
     return
@@ -84,4 +96,5 @@ try_sums
 try_bad_words
 try_few_bytes
 try_writing
+try_sleeps
 refuse_memory

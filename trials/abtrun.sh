@@ -60,6 +60,151 @@ budget 0'
     came "their journal in little memory" 7 "" "abtrun: out of memory"
     call "$program" run "$room/text.abt" --steps 100000 --journal
     holds "the journal of the most steps" [ "$status $(grep -c ' step ' "$room/out")" = "4 100000" ]
+    grep '^[0-9]' "$room/out" >"$room/most.journal"
+    call "$program" check "$room/text.abt" "$room/most.journal"
+    came "the journal of the most steps is checked" 0 run ""
+}
+
+# streams_text FORMAT STREAMS: the lines of a workload up to its streams, each with a pool of its own that all may use.
+streams_text() {
+    local stream
+    printf '%s\n' "abt $1" "streams $2"
+    for stream in $(seq 0 $(($2 - 1))); do echo "pool $stream fifo mpmc"; done
+    for stream in $(seq 0 $(($2 - 1))); do echo "sched $stream prio $stream"; done
+    for stream in $(seq 0 $(($2 - 1))); do echo "stream $stream main $stream"; done
+}
+
+# Sixteen streams, the unit of each of which waits for that of the next.
+chain_text() {
+    local unit
+    streams_text 2 16
+    for unit in $(seq 0 16); do echo "object $unit eventual"; done
+    echo 'units 17'
+    for unit in $(seq 0 15); do printf '%s\n' "unit $unit ult at $unit" "ewait $((unit + 1))" 'add 1' print "eset $unit"; done
+    printf '%s\n' 'unit 16 ult at 15' 'eset 16' end
+}
+
+# Two units on two streams, each of which waits a hundred times for the other.
+turns_text() {
+    local time
+    streams_text 1 2
+    for time in $(seq 0 199); do echo "object $time eventual"; done
+    printf '%s\n' 'units 2' 'unit 0 ult at 0'
+    for time in $(seq 0 2 199); do printf '%s\n' "eset $time" "ewait $((time + 1))"; done
+    echo 'unit 1 ult at 1'
+    for time in $(seq 0 2 199); do printf '%s\n' "ewait $time" "eset $((time + 1))"; done
+    echo end
+}
+
+# Whether one of three runs of the turns starts few threads, of which each wave has one. (A thread that starts late costs waves.)
+starts_few() {
+    local time
+    for time in 1 2 3; do
+        meddled TRIAL_STARTS="$room/count" "$program" run "$room/turns.abt"
+        [ "$status" = 0 ] && [ "$(cat "$room/count")" -lt 20 ] && return
+    done
+    return 1
+}
+
+# Streams that share a thread, that wait for one another, and that wait for a stream in a call.
+try_threads() {
+    local threads unit
+    chain_text >"$room/text.abt"
+    {
+        for unit in $(seq 0 15); do echo "unit $unit done: $((16 - unit))"; done
+        printf '%s\n' 'unit 16 done:' 'tally units 17 unborn 0 pool 0 stream 0 blocked 0 done 17 asked 0 access 0 steps 65' \
+            finished
+    } >"$room/chain.out"
+    for threads in 0 1 7 15; do
+        meddled TRIAL_THREADS=$threads "$program" run "$room/text.abt"
+        came "sixteen streams and $threads further threads" 0 "@$room/chain.out" ""
+    done
+    turns_text >"$room/turns.abt"
+    holds "streams that wait for one another stay in their wave" starts_few
+    {
+        streams_text 3 4
+        printf '%s\n' 'units 1' 'unit 0 ult at 0' 'set 1000000' 'call 1' 'print' end
+    } >"$room/text.abt"
+    meddled TRIAL_SLEEPS="$room/count" "$program" run "$room/text.abt"
+    came "a long call" 0 'unit 0 done: 78498
+tally units 1 unborn 0 pool 0 stream 0 blocked 0 done 1 asked 0 access 0 steps 3
+finished' ""
+    holds "streams sleep while another is in a call" [ "$(cat "$room/count")" -lt 1000 ]
+}
+
+# neighbours_text LAST: 300 units on stream 0 that put out numbers, and two on stream 1, of which the second ends by this line.
+neighbours_text() {
+    streams_text 3 2
+    printf '%s\n' 'units 302' 'many 0 300 ult at 0' 'repeat 100 print' 'unit 300 ult at 1' 'revive 301 1' 'unit 301 ult at 1' "$1" end
+}
+
+# A stream that is out of memory ends the run, although another has work for long.
+try_neighbour() {
+    local first last
+    neighbours_text 'set 1' >"$room/text.abt"
+    meddled TRIAL_COUNT="$room/count" "$program" run "$room/text.abt" --steps 1
+    first=$(cat "$room/count")
+    meddled TRIAL_COUNT="$room/count" "$program" run "$room/text.abt"
+    last=$(cat "$room/count")
+    holds "units allocate while they run: $first, $last" [ $((last - first)) -gt 600 ]
+    neighbours_text 'revive 300 1' >"$room/text.abt"
+    call bash -c 'ulimit -t 2 && exec "$@"' - env TRIAL_REFUSE=$(((first + last) / 2)) LD_PRELOAD="$room/meddle.so" \
+        "$program" run "$room/text.abt"
+    came "a stream without memory beside one at work" 7 "" "abtrun: out of memory"
+}
+
+# full_text FORMAT STREAMS POOLS OBJECTS UNITS: a workload whose units all take locks and wait for the last of them.
+full_text() {
+    awk -v format="$1" -v streams="$2" -v pools="$3" -v objects="$4" -v units="$5" 'BEGIN {
+        printf "abt %d\nstreams %d\n", format, streams
+        for (p = 0; p < pools; p++) printf "pool %d fifo mpmc\n", p
+        for (s = 0; s < streams; s++) printf "sched %d prio %d %d %d %d\n", s, s, s + streams, s + 2 * streams, s + 3 * streams
+        for (s = 0; s < streams; s++) printf "stream %d main %d\n", s, s
+        printf "object 0 mutex\nobject 1 rwlock\nobject 2 eventual\nobject 3 barrier 4000\nobject 4 future 4000 sum\n"
+        for (x = 5; x < objects; x++) printf "object %d mutex\n", x
+        printf "units %d\nmany 0 3999 ult at 0\n", units
+        printf "lock 0\nload 0\nadd 1\nstore 0\nunlock 0\nwrlock 1\nrwunlock 1\nset 1\nfset 4\nbwait 3\newait 2\n"
+        printf "many 3999 %d ult at 1\nlock 0\nload 0\nadd 1\nstore 0\nunlock 0\nrdlock 1\nrwunlock 1\newait 2\n", units - 4000
+        printf "unit %d ult at 2\nset 1\nfset 4\nfwait 4\nprint\nbwait 3\neset 2\nend\n", units - 1
+    }'
+}
+
+# full_report UNITS: its report.
+full_report() {
+    awk -v units="$1" 'BEGIN {
+        for (u = 0; u < units - 1; u++) printf "unit %d done:\n", u
+        printf "unit %d done: 4000\n", u
+        printf "tally units %d unborn 0 pool 0 stream 0 blocked 0 done %d asked 0 access 0 steps ", units, units
+        printf "%d\nfinished\n", 11 * 3999 + 8 * (units - 4000) + 6
+    }'
+}
+
+# flow_text FORMAT UNITS: units of which all but the last wait for its eventual.
+flow_text() {
+    printf '%s\n' "abt $1" 'streams 1' 'pool 0 fifo mpmc' 'sched 0 prio 0' 'stream 0 main 0' 'object 0 eventual' "units $2" \
+        "many 0 $(($2 - 1)) ult at 0" 'ewait 0' 'add 1' print "unit $(($2 - 1)) ult at 0" 'set 6' 'eset 0' end
+}
+
+# tries_full FORMAT STREAMS POOLS OBJECTS UNITS STEPS: a run of at most that many steps a stream, its journal and a flow, of so many parts.
+tries_full() {
+    local unit
+    full_text "$@" >"$room/text.abt"
+    full_report "$5" >"$room/full.out"
+    call "$program" run "$room/text.abt" --steps "$6"
+    came "a run of $5 units" 0 "@$room/full.out" ""
+    "$program" run "$room/text.abt" --steps "$6" --journal | grep '^[0-9]' >"$room/full.journal"
+    call "$program" check "$room/text.abt" "$room/full.journal"
+    came "its journal" 0 run ""
+    flow_text "$1" "$5" >"$room/text.abt"
+    { for unit in $(seq 0 $(($5 - 2))); do echo "unit $unit: 7"; done && echo "unit $(($5 - 1)):"; } >"$room/full.out"
+    call "$program" flow "$room/text.abt"
+    came "a flow of $5 units" 0 "@$room/full.out" ""
+}
+
+# As many parts as format 2 allows, and as many units as format 3 allows.
+try_full() {
+    tries_full 2 16 64 256 4096 100000
+    tries_full 3 4 16 2000 65536 1000000
 }
 
 # Words that are no command, each with the words parted by blanks.
@@ -296,6 +441,9 @@ fi
 mkfifo "$room/fifo"
 try_statuses
 try_most_steps
+try_threads
+try_neighbour
+try_full
 try_bad_words
 try_faults
 try_lengths

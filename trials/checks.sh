@@ -4,7 +4,7 @@
 export LC_ALL=C
 
 # The most seconds that one call may take. It ends a call that hangs, and says nothing of how fast one is.
-most=600
+most_seconds=600
 passed=0
 failed=0
 
@@ -46,7 +46,7 @@ has_full_device() { [ -c /dev/full ] && ! echo >/dev/full; } 2>/dev/null
 
 # call COMMAND WORDS..: its status, and its outputs in $room/out and $room/err.
 call() {
-    timeout -k 5 "$most" "$@" >"$room/out" 2>"$room/err"
+    timeout -k 5 "$most_seconds" "$@" >"$room/out" 2>"$room/err"
     status=$?
 }
 

@@ -1,11 +1,13 @@
-// Preloaded into a program that is tried, it refuses memory and moves few bytes a call, as the environment says.
+// Preloaded into a program that is tried, it refuses memory and threads and moves few bytes a call, as the environment says.
 // It has numbers:
 //   TRIAL_REFUSE  the allocation that is refused, counted from 1
 //   TRIAL_FROM    the allocation from which on all are refused, counted from 1
 //   TRIAL_READ    the most bytes that one read moves
 //   TRIAL_WRITE   the most bytes that one write moves
 //   TRIAL_NO_READ, TRIAL_NO_WRITE  the read, or the write, that fails, counted from 1
-// TRIAL_COUNT names a file, which gets the number of allocations at the end.
+//   TRIAL_THREADS  the most threads that start
+// TRIAL_COUNT, TRIAL_STARTS and TRIAL_SLEEPS name files, which get the numbers of allocations, of threads that were to start, and of
+// calls that were to wait for a word of memory to change, at the end.
 typedef unsigned long size;
 
 extern void *__libc_malloc(size);
@@ -14,13 +16,22 @@ extern void *__libc_realloc(void *, size);
 extern void *__libc_memalign(size, size);
 extern char *getenv(const char *);
 extern int *__errno_location(void);
-extern long syscall(long, ...);
+extern void *dlsym(void *, const char *);
 
-enum { READ = 0, WRITE = 1, OPEN = 2, CLOSE = 3, EXIT_GROUP = 231, EIO = 5, ENOMEM = 12, WRITE_NEW = 01 | 0100 | 01000 };
+enum { READ = 0, WRITE = 1, OPEN = 2, CLOSE = 3, FUTEX = 202, EXIT_GROUP = 231, WRITE_NEW = 01 | 0100 | 01000 };
+enum { EIO = 5, EAGAIN = 11, ENOMEM = 12 };
 
-static size allocations, reads, writes;
-static size refused, from, read_most, write_most, no_read, no_write;
-static int is_ready;
+// Of the operations on a word, those that wait.
+enum { OPERATION = 127, WAIT = 0, WAIT_BITSET = 9 };
+
+typedef long (*system_call)(long, long, long, long, long, long, long);
+typedef int (*thread_start)(void *, const void *, void *(*)(void *), void *);
+
+static size allocations, reads, writes, starts, sleeps;
+static size refused, from, read_most, write_most, no_read, no_write, most_threads;
+static int is_ready, has_most_threads;
+static system_call real_syscall;
+static thread_start real_start;
 
 static size number(const char *name) {
     const char *text = getenv(name);
@@ -29,7 +40,19 @@ static size number(const char *name) {
     return value;
 }
 
+// The function of this name in the library behind this one.
+static void *behind(const char *name) { return dlsym((void *)-1, name); }
+
+long syscall(long call, long a, long b, long c, long d, long e, long f) {
+    if (!real_syscall) real_syscall = (system_call)behind("syscall");
+    if (call == FUTEX && ((b & OPERATION) == WAIT || (b & OPERATION) == WAIT_BITSET)) __atomic_add_fetch(&sleeps, 1, __ATOMIC_SEQ_CST);
+    return real_syscall(call, a, b, c, d, e, f);
+}
+
 __attribute__((constructor)) static void begin(void) {
+    real_start = (thread_start)behind("pthread_create");
+    has_most_threads = getenv("TRIAL_THREADS") != 0;
+    most_threads = number("TRIAL_THREADS");
     refused = number("TRIAL_REFUSE");
     from = number("TRIAL_FROM");
     read_most = number("TRIAL_READ");
@@ -39,23 +62,36 @@ __attribute__((constructor)) static void begin(void) {
     is_ready = 1;
 }
 
-__attribute__((destructor)) static void end(void) {
-    const char *name = getenv("TRIAL_COUNT");
+// Writes the count into the file that the setting names.
+static void leave(const char *setting, size *count) {
+    const char *name = getenv(setting);
     char text[24];
     int at = sizeof text;
     if (!name) return;
     text[--at] = '\n';
-    size left = __atomic_load_n(&allocations, __ATOMIC_SEQ_CST);
+    size left = __atomic_load_n(count, __ATOMIC_SEQ_CST);
     do text[--at] = (char)('0' + left % 10); while (left /= 10);
-    long file = syscall(OPEN, name, WRITE_NEW, 0644);
-    syscall(WRITE, file, text + at, sizeof text - at);
-    syscall(CLOSE, file);
+    long file = syscall(OPEN, (long)name, WRITE_NEW, 0644, 0, 0, 0);
+    syscall(WRITE, file, (long)(text + at), (long)(sizeof text - at), 0, 0, 0);
+    syscall(CLOSE, file, 0, 0, 0, 0, 0);
+}
+
+__attribute__((destructor)) static void end(void) {
+    leave("TRIAL_COUNT", &allocations);
+    leave("TRIAL_STARTS", &starts);
+    leave("TRIAL_SLEEPS", &sleeps);
 }
 
 // A program that ends at once runs no destructors.
 __attribute__((noreturn)) void _exit(int status) {
     end();
-    for (;;) syscall(EXIT_GROUP, (long)status);
+    for (;;) syscall(EXIT_GROUP, status, 0, 0, 0, 0, 0);
+}
+
+int pthread_create(void *thread, const void *attributes, void *(*run)(void *), void *given) {
+    size now = __atomic_add_fetch(&starts, 1, __ATOMIC_SEQ_CST);
+    if (has_most_threads && now > most_threads) return EAGAIN;
+    return real_start(thread, attributes, run, given);
 }
 
 // Whether the next allocation is refused.
@@ -84,7 +120,7 @@ static long move(long call, int file, const void *bytes, size n, size *count, si
         *__errno_location() = EIO;
         return -1;
     }
-    return syscall(call, file, bytes, most && n > most ? most : n);
+    return syscall(call, file, (long)bytes, (long)(most && n > most ? most : n), 0, 0, 0);
 }
 
 long read(int file, void *bytes, size n) { return move(READ, file, bytes, n, &reads, read_most, no_read); }

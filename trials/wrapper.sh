@@ -205,10 +205,10 @@ interrupted() {
 try_two_at_once() {
     as wait
     echo both >"$toy/crates/low/src/lib.rt"
-    timeout "$most" "$toy/toy" 0 first >"$room/out1" 2>"$room/err1" &
+    timeout "$most_seconds" "$toy/toy" 0 first >"$room/out1" 2>"$room/err1" &
     local first=$! second
     until_there "$room/calls"
-    timeout "$most" "$toy/toy" 0 second >"$room/out" 2>"$room/err" &
+    timeout "$most_seconds" "$toy/toy" 0 second >"$room/out" 2>"$room/err" &
     second=$!
     until_there "$room/err"
     touch "$room/go"
@@ -371,7 +371,7 @@ where/./here --data two words=$room/else where/two words -- run here ./here two 
 
 # The toolchain itself builds a program, refuses a wrong one, and runs one without a proof.
 try_toolchain() {
-    local real="$room/real" most=1800
+    local real="$room/real" most_seconds=1800
     mkdir -p "$real/crates/small/src"
     cp abtrun "$real/small"
     cp -r try scripts "$real"
