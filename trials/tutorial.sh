@@ -17,7 +17,7 @@ tutorial() {
 says() {
     local line
     IFS= read -r line
-    PATH=$folder:$PATH timeout -k 5 "$most" bash -c "$line" >"$room/out" 2>"$room/err"
+    PATH=$folder:$PATH timeout -k 5 "$most_seconds" bash -c "$line" >"$room/out" 2>"$room/err"
     printf '%s' "$1" | cmp -s - "$room/out" && [ ! -s "$room/err" ] && pass || miss "$line" "it prints something else than the page says"
 }
 
