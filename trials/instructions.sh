@@ -29,6 +29,6 @@ fi
 one_stream yields 'repeat 255 yield'
 one_stream adds 'repeat 255 add 1'
 one_stream locks "$(for _ in {1..127}; do printf 'lock 0\nunlock 0\n'; done)"
-takes yields 160 "$room/yields.abt"
-takes adds 175 "$room/adds.abt"
-takes locks 285 "$room/locks.abt"
+takes yields 180 "$room/yields.abt"
+takes adds 200 "$room/adds.abt"
+takes locks 295 "$room/locks.abt"
