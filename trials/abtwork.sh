@@ -1,5 +1,6 @@
 # The program abtwork, as docs/FORMAT.md has it: each command and each status with both outputs, and all ways in and out.
-words_are_bad='abtwork: bad command line'
+words_are_bad='abtwork: bad command line
+usage: abtwork primes N | queens N | lcs FILE FILE | mergesort FILE | mandelbrot WIDTH HEIGHT | turns NODES TURNS [--streams S]'
 cannot_read='abtwork: cannot read'
 cannot_write='abtwork: cannot write'
 

@@ -12,7 +12,7 @@ use Rattle.abt_shell.proofs.Fetched.{of-observed}
 use Rattle.abt_compute.specs.Answers.{Answers, HasBadLine, IsFit, IsKnown, IsList, IsShort, Shows}
 use Rattle.abt_compute.specs.Files.{Has, IsTooLong, IsWrongLine, list_limit, text_limit}
 use Rattle.abt_compute.specs.Numbers.{Lists}
-use Rattle.abt_compute.specs.Program.{AskSuch, Call, IsAnswered, MissesFiles, program}
+use Rattle.abt_compute.specs.Program.{AskSuch, Call, IsAnswered, IsRefused, MissesFiles, program}
 use Rattle.abt_compute.specs.Questions.{Question, Primes, Queens, Subsequence, Sort, Picture, Turns, Asks, AsksNothing}
 use Rattle.abt_compute.proofs.Asking.{one-question}
 use Rattle.abt_compute.proofs.Cutting.{no-list}
@@ -67,7 +67,7 @@ asked-is words Is q streams asks such = subst Is (one-question words such.questi
 shown : (s : Status ⊤) (c : Call) (q : Question) (streams : ℕ) → Holds (program c) c.left s → Asks c.words q streams → IsFit c.file q → (Grew c.left.read_faults → ⊥) → (Grew c.left.out_faults → ⊥)
     → (number_of (λ _. 0) s ≡ 0) ⊎ (number_of (λ _. 0) s ≡ 7)
 shown (Concluded done) c q streams h asks fit still quiet = inl refl
-shown (Stopped BadWords) c q streams h asks fit still quiet = absurd (h.cause q streams asks)
+shown (Stopped BadWords) c q streams h asks fit still quiet = absurd h.cause
 shown (Stopped (BadLine line w)) c q streams h asks fit still quiet = absurd (fit-not-bad c.file q line w fit (asked-is c.words (λ u. HasBadLine c.file u line w) q streams asks h.cause))
 shown (Stopped CannotRead) c q streams h asks fit still quiet = absurd (still h.cause.1)
 shown (Stopped OutOfMemory) c q streams h asks fit still quiet = inr refl
@@ -78,7 +78,7 @@ refuses : (s : Status ⊤) (c : Call) (q : Question) (streams : ℕ) → Holds (
     → (number_of (λ _. 0) s ≡ 3) ⊎ (number_of (λ _. 0) s ≡ 7)
 refuses (Concluded done) c q streams h asks known unfit still = absurd (unfit (answered-fit c.file q h.text known (asked-is c.words (λ u. Answers c.file u h.text) q streams asks h.prints)))
 refuses CannotWrite c q streams h asks known unfit still = absurd (unfit (answered-fit c.file q h.text known (asked-is c.words (λ u. Answers c.file u h.text) q streams asks h.prints)))
-refuses (Stopped BadWords) c q streams h asks known unfit still = absurd (h.cause q streams asks)
+refuses (Stopped BadWords) c q streams h asks known unfit still = absurd h.cause
 refuses (Stopped (BadLine line w)) c q streams h asks known unfit still = inl refl
 refuses (Stopped CannotRead) c q streams h asks known unfit still = absurd (still h.cause.1)
 refuses (Stopped OutOfMemory) c q streams h asks known unfit still = inr refl
@@ -87,7 +87,7 @@ refuses (Stopped OutOfMemory) c q streams h asks known unfit still = inr refl
 refuses-words : (s : Status ⊤) (c : Call) → Holds (program c) c.left s → AsksNothing c.words → (number_of (λ _. 0) s ≡ 2) ⊎ (number_of (λ _. 0) s ≡ 7)
 refuses-words (Concluded done) c h none = absurd (none h.prints.question h.prints.streams h.prints.asks)
 refuses-words CannotWrite c h none = absurd (none h.prints.question h.prints.streams h.prints.asks)
-refuses-words (Stopped BadWords) c h none = inl refl
+refuses-words (Stopped BadWords) c h none = absurd h.cause
 refuses-words (Stopped (BadLine line w)) c h none = absurd (none h.cause.question h.cause.streams h.cause.asks)
 refuses-words (Stopped CannotRead) c h none = absurd (none h.cause.0.question h.cause.0.streams h.cause.0.asks)
 refuses-words (Stopped OutOfMemory) c h none = inr refl
@@ -97,7 +97,7 @@ pub answered : (n : ℕ) (c : Call) → EndsBy (program c) c.left n → MissesFi
 answered n c ends absent faulty = by ends.0 ends.1 ends.2 where
   by : (s : Status ⊤) → n ≡ number_of (λ _. 0) s → Holds (program c) c.left s → IsAnswered n c
   by s is h = subst (λ m. IsAnswered m c) (sym is) (record {
-    cause = (s, refl, h);
+    cause = inl (s, refl, h);
     complete = λ q streams asks fit still quiet. shown s c q streams h asks fit still quiet;
     texts = λ q streams asks known unfit still. refuses s c q streams h asks known unfit still;
     words = refuses-words s c h;
@@ -106,3 +106,16 @@ answered n c ends absent faulty = by ends.0 ends.1 ends.2 where
     faulty = subst (λ m. HasReadFault c.left → (m ≡ 5) ⊎ (m ≡ 7)) is faulty;
     writes = writes-well (program c) c.left (λ v e. absurd (omega arith)) s h;
   })
+
+-- and so is one whose words ask nothing, and which read nothing
+pub refused : (n : ℕ) (c : Call) → IsRefused n c → c.left.read_faults.1 ≡ c.left.read_faults.0 → IsAnswered n c
+refused n c is still = record {
+  cause = inr is;
+  complete = λ q streams asks fit quiet done. absurd (is.none q streams asks);
+  texts = λ q streams asks known unfit quiet. absurd (is.none q streams asks);
+  words = λ none. inl is.status;
+  absent = λ q streams file asks named gone. absurd (is.none q streams asks);
+  reads = λ quiet e. let two = is.status in absurd (omega arith);
+  faulty = λ fault. absurd (fault still);
+  writes = λ quiet e. let two = is.status in absurd (omega arith);
+}

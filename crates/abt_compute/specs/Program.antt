@@ -1,11 +1,11 @@
 -- What a call of the program was given, and what each exit status says of what it left.
-use Rattle.std.specs.Prelude.{◌≡◌, ◌≢◌, ◌⊎◌, ℕ, List, Option, codes, ⊤}
+use Rattle.std.specs.Prelude.{◌≡◌, ◌≢◌, ◌⊎◌, ℕ, List, [], Option, codes, ⊤}
 use Rattle.abt_machine.specs.Words.{Text}
 use Rattle.abt_shell.specs.declared.status.Stop.{Stop}
 use Rattle.abt_shell.specs.declared.status.Wrong.{Wrong}
 use Rattle.abt_shell.specs.Calls.{EndsBy, HasReadFault, Left, Program}
 use Rattle.abt_shell.specs.Fetched.{StopsFor}
-use Rattle.abt_shell.specs.Told.{Grew}
+use Rattle.abt_shell.specs.Told.{Gained, Grew, IsTold}
 use Rattle.abt_compute.specs.Answers.{Answers, HasBadLine, IsFit, IsKnown, ReadsFile}
 use Rattle.abt_compute.specs.Questions.{Question, Asks, AsksNothing, Names}
 
@@ -31,9 +31,9 @@ IsAnswerOf words file_of text = AskSuch words (λ q. Answers file_of q text)
 abbrev pub IsBadLine : List Text → (Text → Option Text) → ℕ → Wrong → Type 0
 IsBadLine words file_of line w = AskSuch words (λ q. HasBadLine file_of q line w)
 
--- why a call stops before its first write, by the words, the files, and the count of faults of reading before and afterwards
+-- why a call whose words ask a question stops before its first write, by the words, the files, and the count of faults of reading before and afterwards
 abbrev pub StopsWork : List Text → (Text → Option Text) → ℕ × ℕ → Stop → Type 0
-StopsWork words file_of = StopsFor (AsksNothing words) (AskSuch words ReadsFile) (IsBadLine words file_of)
+StopsWork words file_of = StopsFor ⊥ (AskSuch words ReadsFile) (IsBadLine words file_of)
 
 -- the program: each status says what `Wrote`, `WrotePrefix` or `StoppedBy` of abt_shell states; its one conclusion is that the answer is written
 abbrev pub program : Call → Program ⊤
@@ -43,6 +43,17 @@ program c = record {
   Prints = λ _. IsAnswerOf c.words c.file;
   Stops = StopsWork c.words c.file c.left.read_faults;
 }
+
+-- what is said of words that ask nothing: the message, and what can be asked
+abbrev pub usage_text : Text
+usage_text = codes "abtwork: bad command line\nusage: abtwork primes N | queens N | lcs FILE FILE | mergesort FILE | mandelbrot WIDTH HEIGHT | turns NODES TURNS [--streams S]\n"
+
+-- the words ask nothing, and nothing was written but that
+pub record IsRefused (n : ℕ) (c : Call) : Type 0 where
+  pub status : n ≡ 2
+  pub none : AsksNothing c.words
+  pub out : Gained c.left.out []
+  pub err : IsTold c.left.err c.left.err_faults usage_text
 
 -- if the words ask a question whose files are as they should be, and no fault of reading or writing comes, its answer is written
 abbrev pub IsComplete : ℕ → Call → Type 0
@@ -62,7 +73,7 @@ RefusesWords n c = AsksNothing c.words → (n ≡ 2) ⊎ (n ≡ 7)
 
 -- the exit status of a call has its cause, and the status comes if its cause holds
 pub record IsAnswered (n : ℕ) (c : Call) : Type 0 where
-  pub cause : EndsBy (program c) c.left n
+  pub cause : EndsBy (program c) c.left n ⊎ IsRefused n c
   pub complete : IsComplete n c
   pub texts : RefusesTexts n c
   pub words : RefusesWords n c

@@ -1,17 +1,14 @@
 //! The top call.
 
-ghost use Rattle.std.specs.Prelude.{◌≢◌, ◌≤◌, ℕ, IfErr, IfOk, IsErrAnd, IsErrOf, map, string_bytes};
-ghost use Rattle.abt_machine.specs.Words.{Text};
+ghost use Rattle.std.specs.Prelude.{map, string_bytes};
 ghost use Rattle.abt_shell.specs.Calls.{left};
-ghost use Rattle.abt_shell.specs.declared.status.Stop.TheVariants.{CannotRead};
-ghost use Rattle.abt_compute.specs.Files.{IsUnread};
-ghost use Rattle.abt_compute.specs.Program.{IsAnswerOf, IsAnswered, StopsWork};
-ghost use Rattle.abt_compute.specs.Questions.{Asks, Names, Question};
+ghost use Rattle.abt_shell.specs.Told.{IsTold};
+ghost use Rattle.abt_compute.specs.Program.{IsAnswered, usage_text};
 
 use crate::answers::answer;
 use crate::words::read_words;
 use abt_shell::{Stop, stop_by, write_out};
-use abt_source::{Files, Sink};
+use abt_source::{Files, Sink, write_whole};
 use std::alloc::Global;
 use std::sync::Wait;
 use std::thread::Threads;
@@ -19,23 +16,15 @@ use std::thread::Threads;
 /// The name of the program.
 pub const NAME: &[u8] = b"abtwork";
 
-// What is printed for the question that the words ask: all of a call except its writes.
-fn prepare<R: Threads + Wait + Sync, F: Files>(
-    rt: &R,
-    alloc: Global,
-    words: &[String],
-    files: &mut F,
-) -> Result<Vec<u8>, Stop>
-    ensures done { IfOk result (λ text. IsAnswerOf (map string_bytes words.now) (λ name. F.file files.old name) text.items) }
-    ensures stop { IfErr result (StopsWork (map string_bytes words.now) (λ name. F.file files.old name) (F.faults files.old, F.faults files.new)) }
-    ensures absent { (q : Question) (streams : ℕ) (file : Text) → Asks (map string_bytes words.now) q streams → Names q file → F.absent files.old file → IsErrAnd result IsUnread }
-    ensures faulty { F.faults files.new ≢ F.faults files.old → IsErrOf result CannotRead }
-    ensures later { F.faults files.old ≤ F.faults files.new }
+// The message for words that ask nothing, and what can be asked.
+const USAGE: &[u8] =
+    b"abtwork: bad command line\nusage: abtwork primes N | queens N | lcs FILE FILE | mergesort FILE | mandelbrot WIDTH HEIGHT | turns NODES TURNS [--streams S]\n";
+
+// Says that the words ask nothing, and what can be asked. If a write fails, the sink has a prefix of it.
+fn refuse<E: Sink>(err: &mut E)
+    ensures { IsTold (E.taken err.old, E.taken err.new) (E.faults err.old, E.faults err.new) usage_text }
 {
-    match read_words(words) {
-        Some((asked, streams)) => answer(rt, alloc, asked, streams, files),
-        None => Err(Stop::BadWords),
-    }
+    let _ = write_whole(err, USAGE);
 }
 
 /// Runs the program's command: computes what the words ask for on threads, and writes the answer.
@@ -57,8 +46,14 @@ pub fn abtwork<R: Threads + Wait + Sync, F: Files, K: Sink, E: Sink>(
       left = left (F.faults files.old, F.faults files.new) (K.taken out.old, K.taken out.new) (K.faults out.old, K.faults out.new) (E.taken err.old, E.taken err.new) (E.faults err.old, E.faults err.new);
     }) }
 {
-    match prepare(rt, alloc, words, files) {
-        Ok(text) => write_out(NAME, out, err, &text, 0),
-        Err(stop) => stop_by(alloc, NAME, err, stop).number(),
+    match read_words(words) {
+        None => {
+            refuse(err);
+            Stop::BadWords.number()
+        }
+        Some((asked, streams)) => match answer(rt, alloc, asked, streams, files) {
+            Ok(text) => write_out(NAME, out, err, &text, 0),
+            Err(stop) => stop_by(alloc, NAME, err, stop).number(),
+        },
     }
 }
