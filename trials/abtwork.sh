@@ -220,7 +220,7 @@ try_bad_words() {
     call "$program" primes $'9\n'
     came "a line feed after a number" 2 "" "$words_are_bad"
     call "$program" primes $'9\xff'
-    came "a word that is not UTF-8" 2 "" "$words_are_bad"
+    came "a word that is not UTF-8" 2 "" "abtwork: bad command line"
     call "$program" primes ٣
     came "digits that are not ASCII" 2 "" "$words_are_bad"
 }
