@@ -1,5 +1,6 @@
 -- Words ask one question at most.
 use Rattle.std.proofs.Common.{◌≡◌, ◌∙◌, ◌+◌, ◌*◌, ℕ, List, [], ◌∷◌, drop, length, map, slice_index, ap, arith, refl, subst, sym}
+use Rattle.std.specs.Prelude.{◌==◌, if◌then◌else◌}
 use Rattle.abt_machine.specs.Words.{Text}
 use Rattle.abt_compute.specs.declared.words.Kernel.{Kernel}
 use Rattle.abt_compute.specs.declared.words.Kernel.TheVariants as kernel
@@ -9,44 +10,27 @@ use Rattle.abt_compute.specs.Questions.{Question, Primes, Queens, Subsequence, S
 abbrev mark : Text → ℕ
 mark word = slice_index word 0 + 1000 * length word
 
--- names differ
+-- the computation whose name has this mark; marks differ
+abbrev kernel_at : ℕ → Kernel
+kernel_at m =
+    if m == 6112 then kernel.Primes
+    else if m == 6113 then kernel.Queens
+    else if m == 3108 then kernel.Subsequence
+    else if m == 9109 then kernel.Sort
+    else if m == 10109 then kernel.Picture
+    else kernel.Turns
+
+named : (k : Kernel) → kernel_at (mark (kernel_word k)) ≡ k
+named kernel.Primes = refl
+named kernel.Queens = refl
+named kernel.Subsequence = refl
+named kernel.Sort = refl
+named kernel.Picture = refl
+named kernel.Turns = refl
+
+-- so names differ
 same-kernel : (k l : Kernel) → kernel_word k ≡ kernel_word l → k ≡ l
-same-kernel kernel.Primes kernel.Primes e = refl
-same-kernel kernel.Primes kernel.Queens e = absurd (let n : 6112 ≡ 6113 = ap mark e in omega arith)
-same-kernel kernel.Primes kernel.Subsequence e = absurd (let n : 6112 ≡ 3108 = ap mark e in omega arith)
-same-kernel kernel.Primes kernel.Sort e = absurd (let n : 6112 ≡ 9109 = ap mark e in omega arith)
-same-kernel kernel.Primes kernel.Picture e = absurd (let n : 6112 ≡ 10109 = ap mark e in omega arith)
-same-kernel kernel.Primes kernel.Turns e = absurd (let n : 6112 ≡ 5116 = ap mark e in omega arith)
-same-kernel kernel.Queens kernel.Primes e = absurd (let n : 6113 ≡ 6112 = ap mark e in omega arith)
-same-kernel kernel.Queens kernel.Queens e = refl
-same-kernel kernel.Queens kernel.Subsequence e = absurd (let n : 6113 ≡ 3108 = ap mark e in omega arith)
-same-kernel kernel.Queens kernel.Sort e = absurd (let n : 6113 ≡ 9109 = ap mark e in omega arith)
-same-kernel kernel.Queens kernel.Picture e = absurd (let n : 6113 ≡ 10109 = ap mark e in omega arith)
-same-kernel kernel.Queens kernel.Turns e = absurd (let n : 6113 ≡ 5116 = ap mark e in omega arith)
-same-kernel kernel.Subsequence kernel.Primes e = absurd (let n : 3108 ≡ 6112 = ap mark e in omega arith)
-same-kernel kernel.Subsequence kernel.Queens e = absurd (let n : 3108 ≡ 6113 = ap mark e in omega arith)
-same-kernel kernel.Subsequence kernel.Subsequence e = refl
-same-kernel kernel.Subsequence kernel.Sort e = absurd (let n : 3108 ≡ 9109 = ap mark e in omega arith)
-same-kernel kernel.Subsequence kernel.Picture e = absurd (let n : 3108 ≡ 10109 = ap mark e in omega arith)
-same-kernel kernel.Subsequence kernel.Turns e = absurd (let n : 3108 ≡ 5116 = ap mark e in omega arith)
-same-kernel kernel.Sort kernel.Primes e = absurd (let n : 9109 ≡ 6112 = ap mark e in omega arith)
-same-kernel kernel.Sort kernel.Queens e = absurd (let n : 9109 ≡ 6113 = ap mark e in omega arith)
-same-kernel kernel.Sort kernel.Subsequence e = absurd (let n : 9109 ≡ 3108 = ap mark e in omega arith)
-same-kernel kernel.Sort kernel.Sort e = refl
-same-kernel kernel.Sort kernel.Picture e = absurd (let n : 9109 ≡ 10109 = ap mark e in omega arith)
-same-kernel kernel.Sort kernel.Turns e = absurd (let n : 9109 ≡ 5116 = ap mark e in omega arith)
-same-kernel kernel.Picture kernel.Primes e = absurd (let n : 10109 ≡ 6112 = ap mark e in omega arith)
-same-kernel kernel.Picture kernel.Queens e = absurd (let n : 10109 ≡ 6113 = ap mark e in omega arith)
-same-kernel kernel.Picture kernel.Subsequence e = absurd (let n : 10109 ≡ 3108 = ap mark e in omega arith)
-same-kernel kernel.Picture kernel.Sort e = absurd (let n : 10109 ≡ 9109 = ap mark e in omega arith)
-same-kernel kernel.Picture kernel.Picture e = refl
-same-kernel kernel.Picture kernel.Turns e = absurd (let n : 10109 ≡ 5116 = ap mark e in omega arith)
-same-kernel kernel.Turns kernel.Primes e = absurd (let n : 5116 ≡ 6112 = ap mark e in omega arith)
-same-kernel kernel.Turns kernel.Queens e = absurd (let n : 5116 ≡ 6113 = ap mark e in omega arith)
-same-kernel kernel.Turns kernel.Subsequence e = absurd (let n : 5116 ≡ 3108 = ap mark e in omega arith)
-same-kernel kernel.Turns kernel.Sort e = absurd (let n : 5116 ≡ 9109 = ap mark e in omega arith)
-same-kernel kernel.Turns kernel.Picture e = absurd (let n : 5116 ≡ 10109 = ap mark e in omega arith)
-same-kernel kernel.Turns kernel.Turns e = refl
+same-kernel k l e = sym (named k) ∙ (ap (λ word. kernel_at (mark word)) e ∙ named l)
 
 -- the same words are the same numbers
 one-number : {most least : ℕ} (own : List Text) (n m : ℕ) (more rest : List Text) → SaysOne most own n more → SaysOne least own m rest → n ≡ m

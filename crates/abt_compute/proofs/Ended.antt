@@ -83,24 +83,15 @@ refuses (Stopped (BadLine line w)) c q streams h asks known unfit still = inl re
 refuses (Stopped CannotRead) c q streams h asks known unfit still = absurd (still h.cause.1)
 refuses (Stopped OutOfMemory) c q streams h asks known unfit still = inr refl
 
--- words that ask for nothing are refused
-refuses-words : (s : Status ⊤) (c : Call) → Holds (program c) c.left s → AsksNothing c.words → (number_of (λ _. 0) s ≡ 2) ⊎ (number_of (λ _. 0) s ≡ 7)
-refuses-words (Concluded done) c h none = absurd (none h.prints.question h.prints.streams h.prints.asks)
-refuses-words CannotWrite c h none = absurd (none h.prints.question h.prints.streams h.prints.asks)
-refuses-words (Stopped BadWords) c h none = absurd h.cause
-refuses-words (Stopped (BadLine line w)) c h none = absurd (none h.cause.question h.cause.streams h.cause.asks)
-refuses-words (Stopped CannotRead) c h none = absurd (none h.cause.0.question h.cause.0.streams h.cause.0.asks)
-refuses-words (Stopped OutOfMemory) c h none = inr refl
-
--- a call that ended with this exit status is answered
-pub answered : (n : ℕ) (c : Call) → EndsBy (program c) c.left n → MissesFiles n c → (HasReadFault c.left → (n ≡ 5) ⊎ (n ≡ 7)) → IsAnswered n c
-answered n c ends absent faulty = by ends.0 ends.1 ends.2 where
+-- a call whose words ask a question, and which ended with this exit status, is answered
+pub answered : (n : ℕ) (c : Call) (q : Question) (streams : ℕ) → Asks c.words q streams → EndsBy (program c) c.left n → MissesFiles n c → (HasReadFault c.left → (n ≡ 5) ⊎ (n ≡ 7)) → IsAnswered n c
+answered n c q streams asks ends absent faulty = by ends.0 ends.1 ends.2 where
   by : (s : Status ⊤) → n ≡ number_of (λ _. 0) s → Holds (program c) c.left s → IsAnswered n c
   by s is h = subst (λ m. IsAnswered m c) (sym is) (record {
     cause = inl (s, refl, h);
-    complete = λ q streams asks fit still quiet. shown s c q streams h asks fit still quiet;
-    texts = λ q streams asks known unfit still. refuses s c q streams h asks known unfit still;
-    words = refuses-words s c h;
+    complete = λ u other same fit still quiet. shown s c u other h same fit still quiet;
+    texts = λ u other same known unfit still. refuses s c u other h same known unfit still;
+    words = λ none. absurd (none q streams asks);
     absent = subst (λ m. MissesFiles m c) is absent;
     reads = reads-well (program c) c.left (λ v e. absurd (omega arith)) (λ cause. cause.1) s h;
     faulty = subst (λ m. HasReadFault c.left → (m ≡ 5) ⊎ (m ≡ 7)) is faulty;
@@ -113,7 +104,7 @@ refused n c is still = record {
   cause = inr is;
   complete = λ q streams asks fit quiet done. absurd (is.none q streams asks);
   texts = λ q streams asks known unfit quiet. absurd (is.none q streams asks);
-  words = λ none. inl is.status;
+  words = λ none. is.status;
   absent = λ q streams file asks named gone. absurd (is.none q streams asks);
   reads = λ quiet e. let two = is.status in absurd (omega arith);
   faulty = λ fault. absurd (fault still);

@@ -69,7 +69,7 @@ MissesFiles n c = (q : Question) (streams : ℕ) (file : Text) → Asks c.words 
 
 -- if the words ask for nothing, they are refused
 abbrev pub RefusesWords : ℕ → Call → Type 0
-RefusesWords n c = AsksNothing c.words → (n ≡ 2) ⊎ (n ≡ 7)
+RefusesWords n c = AsksNothing c.words → n ≡ 2
 
 -- the exit status of a call has its cause, and the status comes if its cause holds
 pub record IsAnswered (n : ℕ) (c : Call) : Type 0 where

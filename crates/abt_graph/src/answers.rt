@@ -26,7 +26,7 @@ use std::thread::Threads;
 const STEPS: u64 = 1_048_576;
 
 /// The values of the nodes of a graph, from a run on the threads of this many streams: value u is what the function of node u returns
-/// for the values of the nodes that it waits for. Err says that no memory was found; with memory there is an answer.
+/// for the values of the nodes that it waits for. Err says that no memory was found.
 pub fn run_graph<R: Threads + Wait + Sync, W: Work + Sync>(
     rt: &R,
     alloc: Global,
