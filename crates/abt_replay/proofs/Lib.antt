@@ -1,8 +1,12 @@
 pub mod Answered
 pub mod Classes
 pub mod Counting
+pub mod Forgetting
 pub mod Operating
 pub mod Outcomes
 pub mod Running
 pub mod Serving
+pub mod Telling
+pub mod Told
 pub mod Turned
+pub mod Written

@@ -7,9 +7,10 @@ ghost use Rattle.abt_machine.specs.Acts as asked;
 ghost use Rattle.abt_machine.specs.Barriers.{BarrierGives};
 
 use crate::acts::{Act, Answer};
-use crate::unit::Unit;
+use crate::keys::{Keyed, write_queue};
+use crate::unit::{Unit, copied};
 use abt_machine::Want;
-use std::alloc::Global;
+use std::alloc::{AllocError, Global};
 use std::collections::VecDeque;
 use std::marker::Model;
 use std::mem;
@@ -29,6 +30,28 @@ impl Model for Barrier {
     ghost view = { λ b. record { size = b.size; waiters = b.waiters.items } };
 }
 
+impl Clone for Barrier {
+    ghost is_clone = { λ barrier copy. copy ≡ barrier };
+
+    fn clone(&self) -> Result<Barrier, AllocError> {
+        Ok(Barrier {
+            size: self.size,
+            waiters: copied(&self.waiters)?,
+        })
+    }
+}
+
+impl Keyed for Barrier {
+    ghost use Rattle.abt_replay.specs.Keys.{barrier_key};
+
+    ghost key = { barrier_key };
+
+    fn write(&self, out: &mut Vec<u8>) -> Result<(), Want> {
+        self.size.write(out)?;
+        write_queue(&self.waiters, out)
+    }
+}
+
 impl Barrier {
     /// A barrier of that many parties, at which none waits.
     pub fn new(alloc: Global, size: u32) -> Barrier
@@ -38,6 +61,13 @@ impl Barrier {
             size,
             waiters: VecDeque::new(alloc),
         }
+    }
+
+    /// The units that wait, in order of arrival.
+    pub fn waiters(&self) -> &VecDeque<Unit>
+        ensures { result.now.items ≡ self.now.waiters }
+    {
+        &self.waiters
     }
 
     /// Answers the act.

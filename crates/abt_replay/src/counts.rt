@@ -3,8 +3,9 @@
 ghost use Rattle.std.specs.Prelude.{◌≡◌, ◌<◌, ◌^◌, ◌==◌, IfOk, length, replicate, slice_index, slice_set};
 ghost use Rattle.std.specs.List.{sum};
 
+use crate::keys::{Keyed, write_list};
 use abt_machine::{UnitNo, Want};
-use std::alloc::Global;
+use std::alloc::{AllocError, Global};
 use std::marker::Model;
 
 /// A count of each unit, and the sum of all counts.
@@ -23,6 +24,27 @@ impl Model for Counts {
     ghost view = { λ c. c.each.items };
 
     ghost invariant = { λ c. (c.total ≡ sum c.each.items) × (length c.each.items < 2 ^ 32) };
+}
+
+impl Clone for Counts {
+    ghost is_clone = { λ counts copy. copy ≡ counts };
+
+    fn clone(&self) -> Result<Counts, AllocError> {
+        Ok(Counts {
+            each: self.each.clone()?,
+            total: self.total,
+        })
+    }
+}
+
+impl Keyed for Counts {
+    ghost use Rattle.abt_replay.specs.Keys.{list_key, number_key};
+
+    ghost key = { list_key number_key };
+
+    fn write(&self, out: &mut Vec<u8>) -> Result<(), Want> {
+        write_list(self.each.as_slice(), out)
+    }
 }
 
 impl Counts {

@@ -8,9 +8,11 @@ ghost use Rattle.abt_machine.specs.Acts.{reborn};
 ghost use Rattle.abt_machine.specs.Desks.{DeskGives, is_living, takes_back, unasked};
 
 use crate::acts::{Act, Answer};
-use crate::unit::Unit;
+use crate::keys::{Keyed, write_queue};
+use crate::unit::{Unit, copied};
 use abt_desk::Asks;
 use abt_machine::{Cause, Code, PoolNo, UnitNo, Want};
+use std::alloc::AllocError;
 use std::collections::VecDeque;
 use std::marker::Model;
 use std::mem;
@@ -22,6 +24,48 @@ pub enum Phase {
     Out,
     Suspended(Unit),
     Ended(Unit, Cause),
+}
+
+impl Clone for Phase {
+    ghost is_clone = { λ phase copy. copy ≡ phase };
+
+    fn clone(&self) -> Result<Phase, AllocError> {
+        Ok(match self {
+            Phase::Unborn(unit) => Phase::Unborn(unit.clone()?),
+            Phase::Out => Phase::Out,
+            Phase::Suspended(unit) => Phase::Suspended(unit.clone()?),
+            Phase::Ended(unit, cause) => Phase::Ended(unit.clone()?, *cause),
+        })
+    }
+}
+
+impl Keyed for Phase {
+    ghost use Rattle.abt_replay.specs.Keys.{phase_key};
+    ghost use Rattle.abt_replay.specs.Phases.{phase_of};
+
+    ghost key = { λ phase. phase_key (phase_of phase) };
+
+    fn write(&self, out: &mut Vec<u8>) -> Result<(), Want> {
+        match self {
+            Phase::Unborn(unit) => {
+                out.push(0)?;
+                unit.write(out)
+            }
+            Phase::Out => {
+                out.push(1)?;
+                Ok(())
+            }
+            Phase::Suspended(unit) => {
+                out.push(2)?;
+                unit.write(out)
+            }
+            Phase::Ended(unit, cause) => {
+                out.push(3)?;
+                unit.write(out)?;
+                cause.write(out)
+            }
+        }
+    }
 }
 
 /// The desk of one unit.
@@ -54,6 +98,38 @@ impl Model for Desk {
     } };
 }
 
+impl Clone for Desk {
+    ghost is_clone = { λ desk copy. copy ≡ desk };
+
+    fn clone(&self) -> Result<Desk, AllocError> {
+        Ok(Desk {
+            number: self.number,
+            sched: self.sched,
+            phase: self.phase.clone()?,
+            joiners: copied(&self.joiners)?,
+            asks: self.asks,
+            migratable: self.migratable,
+        })
+    }
+}
+
+impl Keyed for Desk {
+    ghost use Rattle.abt_replay.specs.Keys.{desk_key};
+
+    ghost key = { desk_key };
+
+    #[tactic(auto, using(crate::proofs::Written::written))]
+    fn write(&self, out: &mut Vec<u8>) -> Result<(), Want> {
+        self.number.write(out)?;
+        self.sched.write(out)?;
+        self.phase.write(out)?;
+        write_queue(&self.joiners, out)?;
+        self.asks.cancel.write(out)?;
+        self.asks.migrate.write(out)?;
+        self.migratable.write(out)
+    }
+}
+
 impl Desk {
     ghost use Rattle.std.specs.Prelude.{None, false, not};
 
@@ -81,6 +157,20 @@ impl Desk {
             },
             migratable: !sched,
         }
+    }
+
+    /// Where the desk's own unit is.
+    pub fn phase(&self) -> &Phase
+        ensures { phase_of result.now ≡ self.now.phase }
+    {
+        &self.phase
+    }
+
+    /// The units that join the desk's own, in order of arrival.
+    pub fn joiners(&self) -> &VecDeque<Unit>
+        ensures { result.now.items ≡ self.now.joiners }
+    {
+        &self.joiners
     }
 
     /// Answers the act.

@@ -9,9 +9,10 @@ ghost use Rattle.abt_machine.specs.Eventuals.{EventualGives};
 ghost use Rattle.abt_machine.specs.Futures.{FutureGives, with_one_more};
 
 use crate::acts::{Act, Answer};
-use crate::unit::Unit;
+use crate::keys::{Keyed, write_queue};
+use crate::unit::{Unit, copied};
 use abt_machine::{Code, Combine, Want};
-use std::alloc::Global;
+use std::alloc::{AllocError, Global};
 use std::collections::VecDeque;
 use std::marker::Model;
 
@@ -57,6 +58,28 @@ impl Model for Future {
     ghost invariant = { λ f. f.filled ≤ f.size };
 }
 
+impl Clone for Eventual {
+    ghost is_clone = { λ eventual copy. copy ≡ eventual };
+
+    fn clone(&self) -> Result<Eventual, AllocError> {
+        Ok(Eventual {
+            value: self.value,
+            waiters: copied(&self.waiters)?,
+        })
+    }
+}
+
+impl Keyed for Eventual {
+    ghost use Rattle.abt_replay.specs.Keys.{eventual_key};
+
+    ghost key = { eventual_key };
+
+    fn write(&self, out: &mut Vec<u8>) -> Result<(), Want> {
+        self.value.write(out)?;
+        write_queue(&self.waiters, out)
+    }
+}
+
 impl Eventual {
     /// An eventual without a value, for which nobody waits.
     pub fn new(alloc: Global) -> Eventual
@@ -66,6 +89,13 @@ impl Eventual {
             value: None,
             waiters: VecDeque::new(alloc),
         }
+    }
+
+    /// The units that wait, in order of arrival.
+    pub fn waiters(&self) -> &VecDeque<Unit>
+        ensures { result.now.items ≡ self.now.waiters }
+    {
+        &self.waiters
     }
 
     /// Answers the act.
@@ -113,6 +143,34 @@ impl Eventual {
     }
 }
 
+impl Clone for Future {
+    ghost is_clone = { λ future copy. copy ≡ future };
+
+    fn clone(&self) -> Result<Future, AllocError> {
+        Ok(Future {
+            size: self.size,
+            combine: self.combine,
+            filled: self.filled,
+            value: self.value,
+            waiters: copied(&self.waiters)?,
+        })
+    }
+}
+
+impl Keyed for Future {
+    ghost use Rattle.abt_replay.specs.Keys.{future_key};
+
+    ghost key = { future_key };
+
+    fn write(&self, out: &mut Vec<u8>) -> Result<(), Want> {
+        self.size.write(out)?;
+        self.combine.write(out)?;
+        self.filled.write(out)?;
+        self.value.write(out)?;
+        write_queue(&self.waiters, out)
+    }
+}
+
 impl Future {
     /// A future of that many compartments, none of which is filled, and of that rule, for which nobody waits.
     pub fn new(alloc: Global, size: u32, combine: Combine) -> Future
@@ -125,6 +183,13 @@ impl Future {
             value: 0,
             waiters: VecDeque::new(alloc),
         }
+    }
+
+    /// The units that wait, in order of arrival.
+    pub fn waiters(&self) -> &VecDeque<Unit>
+        ensures { result.now.items ≡ self.now.waiters }
+    {
+        &self.waiters
     }
 
     /// Answers the act.

@@ -1,10 +1,11 @@
 //! What a stream holds, and what each kind of event makes of it.
 
-ghost use Rattle.std.specs.Prelude.{◌≡◌, ◌<◌, ◌-◌, ◌^◌, ◌≢◌, ◌↔◌, [], ◌∷◌, IfNone, IfOk, IfSome, IsTrue, List, None, Some, length, option_map};
+ghost use Rattle.std.specs.Prelude.{◌≡◌, ◌<◌, ◌-◌, ◌^◌, ◌≢◌, ◌↔◌, [], ◌∷◌, IfNone, IfOk, IfSome, IsTrue, List, None, Some, length, option_copied, option_map};
 ghost use Rattle.abt_calls.specs.Allowed.{Allows};
 ghost use Rattle.abt_calls.specs.Starts.{start_part};
 ghost use Rattle.abt_replay.specs.Events.{AreObjects, CallsBy, Ends, Entered, Leaves, Looks, Runs, Stepped, Visits, Woken};
 ghost use Rattle.abt_replay.specs.Objects.{object_at};
+ghost use Rattle.abt_replay.specs.Unnumbered.{unnumbered_held};
 ghost use Rattle.abt_machine.specs.declared.events.Site.TheVariants as site;
 ghost use Rattle.abt_machine.specs.declared.numbers.PoolNo.{PoolNo};
 ghost use Rattle.abt_machine.specs.Acts as asked;
@@ -19,14 +20,15 @@ ghost use Rattle.abt_machine.specs.declared.operations.Op.TheVariants as operati
 mod stepping;
 
 use crate::acts::{Act, Answer};
-use crate::frames::Frame;
+use crate::frames::{Frame, forget_rounds};
+use crate::keys::{Keyed, write_list, write_queue};
 use crate::objects::Objects;
-use crate::unit::Unit;
+use crate::unit::{Unit, copied};
 use abt_desk::Asks;
 use abt_machine::{Cause, Op, PoolNo, Returned, SchedNo, Site, StreamNo, Want, What, Workload};
 use abt_plans::{HandDue, Mark, hand_due, side};
 use abt_work::Work;
-use std::alloc::Global;
+use std::alloc::{AllocError, Global};
 use std::collections::VecDeque;
 use std::marker::Model;
 use std::mem;
@@ -62,6 +64,51 @@ impl Model for Lane {
     ghost invariant = { λ l. length l.framed.items ≡ length l.below.items };
 }
 
+impl Clone for Lane {
+    ghost is_clone = { λ lane copy. copy ≡ lane };
+
+    fn clone(&self) -> Result<Lane, AllocError> {
+        Ok(Lane {
+            mark: self.mark,
+            top: self.top.clone()?,
+            below: Vec::from_clones(*self.below.allocator(), self.below.as_slice())?,
+            hand: self.hand.clone()?,
+            next: self.next.clone()?,
+            tray: copied(&self.tray)?,
+            framed: Vec::from_clones(*self.framed.allocator(), self.framed.as_slice())?,
+        })
+    }
+}
+
+impl Keyed for Lane {
+    ghost use Rattle.abt_replay.specs.Keys.{lane_key};
+
+    ghost key = { lane_key };
+
+    fn write(&self, out: &mut Vec<u8>) -> Result<(), Want> {
+        self.write_own(out)?;
+        self.hand.write(out)?;
+        self.next.write(out)?;
+        write_queue(&self.tray, out)?;
+        write_list(self.framed.as_slice(), out)
+    }
+}
+
+impl Lane {
+    ghost use Rattle.std.specs.Prelude.{◌++◌};
+    ghost use Rattle.abt_replay.specs.Keys.{stream_key};
+
+    // Appends the bytes of the mark and the frames.
+    #[tactic(auto, using(crate::proofs::Written::written), unfolding(crate::specs::Keys::stream_key))]
+    fn write_own(&self, out: &mut Vec<u8>) -> Result<(), Want>
+        ensures { IfOk result (λ _. out.new.items ≡ out.old.items ++ stream_key self.now.own) }
+    {
+        self.mark.write(out)?;
+        self.top.write(out)?;
+        write_list(self.below.as_slice(), out)
+    }
+}
+
 impl Lane {
     /// Stream `s` at the start of a run: its main scheduler is at its first round, and it holds no unit.
     pub fn new(alloc: Global, w: &Workload, s: StreamNo) -> Lane
@@ -91,6 +138,43 @@ impl Lane {
         ensures { IsTrue result ↔ (self.now.own.below ≢ []) }
     {
         !self.below.is_empty()
+    }
+
+    /// The unit in hand.
+    pub fn hand(&self) -> Option<&Unit>
+        ensures { option_copied result ≡ self.now.hand }
+    {
+        self.hand.as_ref()
+    }
+
+    /// The unit that was taken from a pool and is not yet looked at.
+    pub fn next(&self) -> Option<&Unit>
+        ensures { option_copied result ≡ self.now.next }
+    {
+        self.next.as_ref()
+    }
+
+    /// The units on their way home, the first to be put first.
+    pub fn tray(&self) -> &VecDeque<Unit>
+        ensures { result.now.items ≡ self.now.tray }
+    {
+        &self.tray
+    }
+
+    /// The scheduler units of the stacked frames, the lowest first.
+    pub fn framed(&self) -> &[Unit]
+        ensures { result.now ≡ self.now.framed }
+    {
+        self.framed.as_slice()
+    }
+
+    /// The round of each frame becomes 0.
+    #[tactic(auto, using(crate::proofs::Forgetting::forgetting))]
+    pub fn forget_rounds(&mut self)
+        ensures { self.new ≡ unnumbered_held self.old }
+    {
+        self.top.forget_round();
+        forget_rounds(&mut self.below);
     }
 
     /// Takes the first unit of the tray out of it.

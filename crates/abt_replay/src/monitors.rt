@@ -8,15 +8,16 @@ ghost use Rattle.abt_machine.specs.Monitors.{MonitorGives, handed_over};
 ghost use Rattle.abt_machine.specs.Queues.{first};
 
 use crate::acts::{Act, Answer};
-use crate::unit::Unit;
+use crate::keys::{Keyed, write_list, write_queue};
+use crate::unit::{Unit, copied};
 use abt_machine::{Code, UnitNo, Want};
-use std::alloc::Global;
+use std::alloc::{AllocError, Global};
 use std::collections::VecDeque;
 use std::marker::Model;
 
-// The units that wait at one condition.
+/// The units that wait at one condition, in order of arrival.
 #[derive(Drop)]
-pub(crate) struct Waiters {
+pub struct Waiters {
     units: VecDeque<Unit>,
 }
 
@@ -27,6 +28,26 @@ impl Model for Waiters {
     ghost Value = { List Owned };
 
     ghost view = { λ waiters. waiters.units.items };
+}
+
+impl Clone for Waiters {
+    ghost is_clone = { λ waiters copy. copy ≡ waiters };
+
+    fn clone(&self) -> Result<Waiters, AllocError> {
+        Ok(Waiters {
+            units: copied(&self.units)?,
+        })
+    }
+}
+
+impl Keyed for Waiters {
+    ghost use Rattle.abt_replay.specs.Keys.{list_key, unit_key};
+
+    ghost key = { list_key unit_key };
+
+    fn write(&self, out: &mut Vec<u8>) -> Result<(), Want> {
+        write_queue(&self.units, out)
+    }
 }
 
 /// A mutex with its owner, the number that it guards, the units that wait for it, and those that wait at its conditions,
@@ -54,6 +75,33 @@ impl Model for Monitor {
     } };
 }
 
+impl Clone for Monitor {
+    ghost is_clone = { λ monitor copy. copy ≡ monitor };
+
+    fn clone(&self) -> Result<Monitor, AllocError> {
+        Ok(Monitor {
+            owner: self.owner,
+            number: self.number,
+            waiters: copied(&self.waiters)?,
+            conds: Vec::from_clones(*self.conds.allocator(), self.conds.as_slice())?,
+        })
+    }
+}
+
+impl Keyed for Monitor {
+    ghost use Rattle.abt_replay.specs.Keys.{monitor_key};
+
+    ghost key = { monitor_key };
+
+    #[tactic(auto, using(crate::proofs::Written::written))]
+    fn write(&self, out: &mut Vec<u8>) -> Result<(), Want> {
+        self.owner.write(out)?;
+        self.number.write(out)?;
+        write_queue(&self.waiters, out)?;
+        write_list(self.conds.as_slice(), out)
+    }
+}
+
 impl Monitor {
     /// A free mutex that guards 0, with that many conditions, at which nobody waits. Out of memory is the only error.
     pub fn new(alloc: Global, conds: u32) -> Result<Monitor, Want>
@@ -71,6 +119,20 @@ impl Monitor {
             waiters: VecDeque::new(alloc),
             conds: lists,
         })
+    }
+
+    /// The units that wait for the mutex, in order of arrival.
+    pub fn waiters(&self) -> &VecDeque<Unit>
+        ensures { result.now.items ≡ self.now.waiters }
+    {
+        &self.waiters
+    }
+
+    /// The units that wait at each condition.
+    pub fn conds(&self) -> &[Waiters]
+        ensures { result.now ≡ self.now.conds }
+    {
+        self.conds.as_slice()
     }
 
     /// Answers the act.
@@ -204,6 +266,13 @@ impl Monitor {
 
 impl Waiters {
     ghost use Rattle.std.specs.Prelude.{◌++◌, IfNone, IfSome};
+
+    /// The units.
+    pub fn units(&self) -> &VecDeque<Unit>
+        ensures { result.now.items ≡ self.now }
+    {
+        &self.units
+    }
 
     fn push(&mut self, unit: Unit) -> Result<(), Want>
         ensures { IfOk result (λ _. self.new ≡ self.old ++ unit ∷ []) }

@@ -7,8 +7,10 @@ ghost use Rattle.abt_replay.specs.Acts.{act_of, answer_of};
 ghost use Rattle.abt_machine.specs.Pools.{PoolGives, is_unit, with_end, without};
 
 use crate::acts::{Act, Answer};
-use crate::unit::Unit;
+use crate::keys::{Keyed, write_queue};
+use crate::unit::{Unit, copied};
 use abt_machine::{Code, Kind, Side, UnitNo, Want};
+use std::alloc::AllocError;
 use std::collections::VecDeque;
 use std::marker::Model;
 
@@ -27,12 +29,41 @@ impl Model for Pool {
     ghost view = { λ p. record { kind = p.kind; units = p.units.items } };
 }
 
+impl Clone for Pool {
+    ghost is_clone = { λ pool copy. copy ≡ pool };
+
+    fn clone(&self) -> Result<Pool, AllocError> {
+        Ok(Pool {
+            kind: self.kind,
+            units: copied(&self.units)?,
+        })
+    }
+}
+
+impl Keyed for Pool {
+    ghost use Rattle.abt_replay.specs.Keys.{pool_key};
+
+    ghost key = { pool_key };
+
+    fn write(&self, out: &mut Vec<u8>) -> Result<(), Want> {
+        self.kind.write(out)?;
+        write_queue(&self.units, out)
+    }
+}
+
 impl Pool {
     /// A pool of that kind with these units, the oldest first.
     pub fn new(kind: Kind, units: VecDeque<Unit>) -> Pool
         ensures { result ≡ record { kind = kind; units = units.items } }
     {
         Pool { kind, units }
+    }
+
+    /// The units, the oldest first.
+    pub fn units(&self) -> &VecDeque<Unit>
+        ensures { result.now.items ≡ self.now.units }
+    {
+        &self.units
     }
 
     /// Answers the act.

@@ -10,9 +10,10 @@ ghost use Rattle.abt_machine.specs.RwLocks.{RwLockGives, after_readers, all_read
 
 use crate::acts::{Act, Answer};
 use crate::counts::Counts;
-use crate::unit::Unit;
+use crate::keys::{Keyed, write_list, write_queue};
+use crate::unit::{Unit, copied};
 use abt_machine::{Code, UnitNo, Want, Wish};
-use std::alloc::Global;
+use std::alloc::{AllocError, Global};
 use std::collections::VecDeque;
 use std::marker::Model;
 
@@ -48,6 +49,35 @@ impl Model for RwLock {
     } };
 }
 
+impl Clone for RwLock {
+    ghost is_clone = { λ lock copy. copy ≡ lock };
+
+    fn clone(&self) -> Result<RwLock, AllocError> {
+        Ok(RwLock {
+            writer: self.writer,
+            counts: self.counts.clone()?,
+            wishes: Vec::from_slice(*self.wishes.allocator(), self.wishes.as_slice())?,
+            waiters: copied(&self.waiters)?,
+            number: self.number,
+        })
+    }
+}
+
+impl Keyed for RwLock {
+    ghost use Rattle.abt_replay.specs.Keys.{rwlock_key};
+
+    ghost key = { rwlock_key };
+
+    #[tactic(auto, using(crate::proofs::Written::written))]
+    fn write(&self, out: &mut Vec<u8>) -> Result<(), Want> {
+        self.writer.write(out)?;
+        self.counts.write(out)?;
+        write_list(self.wishes.as_slice(), out)?;
+        self.number.write(out)?;
+        write_queue(&self.waiters, out)
+    }
+}
+
 impl RwLock {
     /// A free lock that guards 0, for units whose numbers are below `units`; nobody waits for it. Out of memory is the only error.
     pub fn new(alloc: Global, units: u32) -> Result<RwLock, Want>
@@ -63,6 +93,13 @@ impl RwLock {
             waiters: VecDeque::new(alloc),
             number: 0,
         })
+    }
+
+    /// The units that wait, in order of arrival.
+    pub fn waiters(&self) -> &VecDeque<Unit>
+        ensures { result.now.items ≡ self.now.waiters }
+    {
+        &self.waiters
     }
 
     /// Answers the act.

@@ -11,12 +11,14 @@ ghost use Rattle.abt_machine.specs.Start.{start};
 ghost use Rattle.abt_machine.specs.Values.{owned_at};
 ghost use Rattle.abt_unit.specs.Local.{after_local, with_carried};
 
+use crate::keys::{Keyed, write_list};
 use abt_machine::{Code, Op, Piece, PoolNo, UnitNo, Want, Workload};
-use std::alloc::Global;
+use std::alloc::{AllocError, Global};
+use std::collections::VecDeque;
 use std::marker::Model;
 
 // What a unit carries.
-#[derive(Drop)]
+#[derive(Clone, Drop)]
 struct Load {
     number: UnitNo,
     position: u32,
@@ -47,6 +49,31 @@ impl Model for Unit {
         output = u.load.value.output.items;
       };
     } };
+}
+
+impl Clone for Unit {
+    ghost is_clone = { λ unit copy. copy ≡ unit };
+
+    fn clone(&self) -> Result<Unit, AllocError> {
+        let load = self.load.clone()?;
+        Ok(Unit { load })
+    }
+}
+
+impl Keyed for Unit {
+    ghost use Rattle.abt_replay.specs.Keys.{unit_key};
+
+    ghost key = { unit_key };
+
+    fn write(&self, out: &mut Vec<u8>) -> Result<(), Want> {
+        let load = &self.load;
+        load.number.write(out)?;
+        load.position.write(out)?;
+        load.acc.write(out)?;
+        write_list(load.keys.as_slice(), out)?;
+        load.home.write(out)?;
+        write_list(load.output.as_slice(), out)
+    }
 }
 
 impl Unit {
@@ -102,6 +129,13 @@ impl Unit {
         ensures { result.0 ≡ self.now.carried.home }
     {
         self.load.home
+    }
+
+    /// The pieces of its output, the oldest first.
+    pub fn output(&self) -> &[Piece]
+        ensures { result.now ≡ self.now.carried.output }
+    {
+        self.load.output.as_slice()
     }
 
     /// Goes on to the next operation.
@@ -176,6 +210,13 @@ impl Unit {
         load.position += 1;
         Ok(())
     }
+}
+
+/// A copy of all units, in order. Out of memory is the only error.
+pub(crate) fn copied(units: &VecDeque<Unit>) -> Result<VecDeque<Unit>, AllocError>
+    ensures { IfOk result (λ copy. copy.items ≡ units.now.items) }
+{
+    units.clone()
 }
 
 // The home of a unit that starts there, or in no pool.
