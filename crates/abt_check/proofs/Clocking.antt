@@ -15,7 +15,7 @@ use Rattle.abt_calls.specs.Asking.{IsSite}
 use Rattle.abt_laws.proofs.Options.{none≢some, some-injective}
 use Rattle.abt_replay.specs.Objects.{same_place}
 use Rattle.abt_check.specs.Clocks.{AreClocks, ClocksValue, FollowsLast, HasClocks, IsAllowed, IsLatest, IsOfStream, Stamps, Touches, clock_at, clock_of, noted, with_clock, with_site}
-use Rattle.abt_check.proofs.Sites.{one-place, own-place}
+use Rattle.abt_model.proofs.Sites.{one-place, own-place}
 use Rattle.abt_check.proofs.Stamping.{last-push, stamped-above, stamped-last, stamped-push, stamped-some}
 
 -- The greatest stamp.

@@ -15,10 +15,11 @@ use Rattle.abt_bounds.proofs.Naming.{runs-name-declared}
 use Rattle.abt_machine.specs.Runs.{Run, RunFrom, last_state}
 use Rattle.abt_machine.specs.Start.{start}
 use Rattle.abt_machine.specs.State.{State}
+use Rattle.abt_laws.proofs.SoundStart.{start-is-sound}
 use Rattle.abt_laws.proofs.RunParts.{run-front, run-push, run-rest, state_after-append}
-use Rattle.abt_check.specs.Clocks.{ClocksValue, Stamps}
+use Rattle.abt_check.specs.Clocks.{AreClocks, ClocksValue, Stamps}
 use Rattle.abt_check.specs.Judges.{HasJudged, JudgeValue, Judges}
-use Rattle.abt_check.specs.Replays.{IsAfter, IsDone, ReplayValue, StandsFor}
+use Rattle.abt_model.specs.Models.{IsAfter, IsDone, ModelValue, StandsFor}
 use Rattle.abt_check.specs.Verdicts.{IsJudged, IsRunUpTo, IsStampedRun, OneVerdict}
 use Rattle.abt_check.specs.declared.verdict.Verdict.{Verdict}
 use Rattle.abt_check.specs.declared.verdict.Verdict.TheVariants as verdict
@@ -59,18 +60,18 @@ module _ (W : Parts) (Z : Stored) where
   may-not J e other h = other (run-last J e h.0).1
 
   -- the event was done, and its stamp was judged
-  pub judged-by : (J : List Event) (e : Event) (b : Bool) (replay : ReplayValue) (clocks : ClocksValue) → Run W Z J → e.stream.0 < W.streams → IsDone W Z (length J) (last_state W J) e.stream.0 e.what replay → Stamps W J e b clocks
-      → Judges W Z (J ++ e ∷ []) b (record { replay = replay; clocks = clocks })
-  judged-by J e true replay clocks run l done stamps =
+  pub judged-by : (J : List Event) (e : Event) (b : Bool) (model : ModelValue) (clocks : ClocksValue) → Run W Z J → e.stream.0 < W.streams → IsDone W Z (length J) (last_state W J) e.stream.0 e.what model → Stamps W J e b clocks
+      → Judges W Z (J ++ e ∷ []) b (record { model = model; clocks = clocks })
+  judged-by J e true model clocks run l done stamps =
       let same : last_state W (J ++ e ∷ []) ≡ after W (last_state W J) e.stream.0 e.what = last_state-more J e in
       record {
         run = run-more J e run l done.may;
         stamped = stamps.0;
         state = subst (λ n. IsAfter W Z n (last_state W (J ++ e ∷ []))) (let long : length (J ++ e ∷ []) ≡ length J + 1 = length_push J e in omega arith) (subst (IsAfter W Z (suc (length J))) (sym same) done.state);
-        stands = subst (λ (S : State). StandsFor W S replay) (sym same) done.stands;
+        stands = subst (λ (S : State). StandsFor W S model) (sym same) done.stands;
         clocks = stamps.1;
       }
-  judged-by J e false replay clocks run l done stamps = λ h. stamps h.1
+  judged-by J e false model clocks run l done stamps = λ h. stamps h.1
 
   -- The verdict.
 
@@ -124,3 +125,13 @@ all-judged W Z J items at judge same up down h =
     let all : at ≡ length J = omega arith in
     let whole : take at J ≡ J = ap (λ n. take n J) all ∙ take-length J in
     subst (IsStampedRun W Z) whole (h.run, h.stamped)
+
+-- the empty journal is judged
+pub judge-starts : (W : Parts) (Z : Stored) (model : ModelValue) (clocks : ClocksValue) → IsValid W → OrdersStored W Z.orders → StandsFor W (start W) model → AreClocks W [] clocks → HasJudged W Z [] (record { model = model; clocks = clocks })
+judge-starts W Z model clocks valid stored stands are = record {
+  run = tt;
+  stamped = tt;
+  state = record { sound = start-is-sound W Z valid stored; rounds = λ s. (omega arith, tt) };
+  stands = stands;
+  clocks = are;
+}

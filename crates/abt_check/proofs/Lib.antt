@@ -1,10 +1,3 @@
 pub mod Clocking
-pub mod Following
 pub mod Judged
-pub mod Moving
-pub mod Numbered
-pub mod Rounding
-pub mod Sites
 pub mod Stamping
-pub mod Starting
-pub mod Visiting

@@ -6,12 +6,12 @@ use Rattle.abt_machine.specs.declared.workload.Parts.{Parts}
 use Rattle.abt_machine.specs.Runs.{Run, last_state}
 use Rattle.abt_machine.specs.Stamps.{Stamped}
 use Rattle.abt_check.specs.Clocks.{AreClocks, ClocksValue}
-use Rattle.abt_check.specs.Replays.{IsAfter, ReplayValue, StandsFor}
+use Rattle.abt_model.specs.Models.{IsAfter, ModelValue, StandsFor}
 use Rattle.abt_check.specs.Verdicts.{IsStampedRun}
 
 -- streams, objects and clocks
 pub record JudgeValue : Type 0 where
-  pub replay : ReplayValue
+  pub model : ModelValue
   pub clocks : ClocksValue
 
 -- the journal is a stamped run, and streams, objects and clocks are as it leaves them
@@ -19,7 +19,7 @@ pub record HasJudged (W : Parts) (Z : Stored) (J : List Event) (judge : JudgeVal
   pub run : Run W Z J
   pub stamped : Stamped W J
   pub state : IsAfter W Z (length J) (last_state W J)
-  pub stands : StandsFor W (last_state W J) judge.replay
+  pub stands : StandsFor W (last_state W J) judge.model
   pub clocks : AreClocks W J judge.clocks
 
 -- whether the journal is a stamped run

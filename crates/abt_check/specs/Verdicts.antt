@@ -1,17 +1,12 @@
 -- Which verdict on a journal is right.
-use Rattle.std.specs.Prelude.{ℕ, ◌≡◌, ◌<◌, ◌≤◌, List, Option, length, take}
+use Rattle.std.specs.Prelude.{ℕ, ◌≡◌, ◌<◌, ◌≤◌, List, length, take}
 use Rattle.abt_machine.specs.declared.events.Event.{Event}
-use Rattle.abt_machine.specs.declared.operations.OrderShape.{OrderShape}
 use Rattle.abt_machine.specs.Stored.{Stored}
 use Rattle.abt_machine.specs.declared.workload.Parts.{Parts}
 use Rattle.abt_machine.specs.Runs.{Run}
 use Rattle.abt_machine.specs.Stamps.{Stamped}
 use Rattle.abt_check.specs.declared.verdict.Verdict.{Verdict}
 use Rattle.abt_check.specs.declared.verdict.Verdict.TheVariants as verdict
-
--- what is stored: orders of these shapes, and functions that return this
-abbrev pub stored_with : List OrderShape → (ℕ → ℕ → ℕ → List ℕ → Option ℕ) → Stored
-stored_with shapes returns = record { orders = shapes; returns = returns }
 
 -- the journal is a run of W with stamps, with these stored orders and functions
 abbrev pub IsStampedRun : Parts → Stored → List Event → Type 0

@@ -6,28 +6,28 @@ ghost use Rattle.abt_machine.specs.Rounds.{OrdersStored};
 ghost use Rattle.abt_machine.specs.Valid.{IsValid};
 ghost use Rattle.abt_machine.specs.declared.events.Event.{Event};
 ghost use Rattle.abt_machine.specs.Stored.{CallsStored, Stored};
-ghost use Rattle.abt_check.specs.Verdicts.{stored_with};
+ghost use Rattle.abt_model.specs.Stored.{stored_with};
 
 use crate::clocks::Clocks;
-use crate::replay::Replay;
 use abt_machine::{Event, OrderShape, Want, Workload};
+use abt_model::Model;
 use abt_work::Work;
 use std::alloc::Global;
-use std::marker::Model;
+use std::marker;
 
 /// Streams, objects and clocks after the events that were judged.
 #[derive(Drop)]
 pub(crate) struct Judge {
-    replay: Replay,
+    model: Model,
     clocks: Clocks,
 }
 
-impl Model for Judge {
+impl marker::Model for Judge {
     ghost use Rattle.abt_check.specs.Judges.{JudgeValue};
 
     ghost Value = { JudgeValue };
 
-    ghost view = { λ j. record { replay = j.replay; clocks = j.clocks } };
+    ghost view = { λ j. record { model = j.model; clocks = j.clocks } };
 }
 
 impl Judge {
@@ -36,9 +36,9 @@ impl Judge {
         requires { IsValid w.now }
         ensures { IfOk result (λ judge. (Z : Stored) → OrdersStored w.now Z.orders → HasJudged w.now Z [] judge) }
     {
-        let replay = Replay::start(alloc, w)?;
+        let model = Model::start(alloc, w)?;
         let clocks = Clocks::start(alloc, w)?;
-        Ok(Judge { replay, clocks })
+        Ok(Judge { model, clocks })
     }
 
     /// Whether the events judged so far, all of which were right, are a stamped run with this event too. `z` has the shapes of
@@ -59,7 +59,7 @@ impl Judge {
         if event.stream.0 >= w.streams() {
             return Ok(false);
         }
-        if !self.replay.follow(w, z, work, event.stream, &event.what)? {
+        if !self.model.follow(w, z, work, event.stream, &event.what)? {
             return Ok(false);
         }
         Ok(self.clocks.follow(w, event))

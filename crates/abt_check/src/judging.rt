@@ -1,7 +1,8 @@
 //! Whether a journal is a run of a workload.
 
 ghost use Rattle.std.specs.Prelude.{◌≡◌, ◌≤◌, IfOk, List, length};
-ghost use Rattle.abt_check.specs.Verdicts.{IsJudged, OneVerdict, stored_with};
+ghost use Rattle.abt_check.specs.Verdicts.{IsJudged, OneVerdict};
+ghost use Rattle.abt_model.specs.Stored.{stored_with};
 ghost use Rattle.abt_machine.specs.Stored.{CallsStored, Stored};
 ghost use Rattle.abt_machine.specs.declared.workload.Parts.{Parts};
 ghost use Rattle.abt_order.specs.Stored.{shapes_of, stored_of};

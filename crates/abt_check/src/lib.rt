@@ -4,11 +4,7 @@
 mod clocks;
 mod judge;
 mod judging;
-mod replay;
-mod starts;
-mod turns;
 mod verdict;
-mod visits;
 
 pub use judging::{check, one_verdict};
 pub use verdict::Verdict;

@@ -2,7 +2,7 @@ use Rattle.std.proofs.Common.{◌≡◌, ◌∙◌, ◌+◌, ◌++◌, [], ◌�
 use Rattle.abt_machine.specs.declared.events.Event.{Event}
 use Rattle.abt_outcomes.proofs.Stored.{orders-stored}
 use Rattle.abt_check.specs.Judges.{HasJudged, Judges}
-use Rattle.abt_check.specs.Verdicts.{stored_with}
+use Rattle.abt_model.specs.Stored.{stored_with}
 use Rattle.abt_check.proofs.Judged.{all-judged, bad-at, first-long, first-more}
 use Rattle.abt_check.proofs.judging.judge.Goals as goal
 

@@ -1,6 +1,6 @@
 use Rattle.std.proofs.Common.{take}
 use Rattle.abt_check.specs.Judges.{HasJudged}
-use Rattle.abt_check.specs.Verdicts.{stored_with}
+use Rattle.abt_model.specs.Stored.{stored_with}
 use Rattle.abt_check.proofs.judging.judge.Given as goal
 
 abbrev pub invariant-loop-at : goal.invariant-loop-at

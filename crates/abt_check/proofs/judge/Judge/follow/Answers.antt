@@ -2,8 +2,8 @@ use Rattle.std.proofs.Common.{◌≡◌, ◌<◌, ◌≤◌, List, arith, length
 use Rattle.abt_machine.specs.declared.events.Event.{Event}
 use Rattle.abt_machine.specs.Runs.{last_state}
 use Rattle.abt_check.specs.Judges.{HasJudged, JudgeValue}
-use Rattle.abt_check.specs.Replays.{MayBeDone, IsDone}
-use Rattle.abt_check.specs.Verdicts.{stored_with}
+use Rattle.abt_model.specs.Models.{MayBeDone, IsDone}
+use Rattle.abt_model.specs.Stored.{stored_with}
 use Rattle.abt_check.proofs.Judged.{judged-by, may-not, names-declared, not-declared}
 use Rattle.abt_check.proofs.judge.Judge.follow.Goals.{Else-not-branch}
 use Rattle.abt_check.proofs.judge.Judge.follow.Goals as goal
@@ -19,7 +19,7 @@ pub returns-then-not-branch : goal.returns-then-not-branch
 returns-then-not-branch g c J judged =
     let W = c.args.w.now in
     let Z = stored_with c.args.z.now (g.P.Work.returns c.args.work.now) in
-    let judge : JudgeValue = record { replay = c.self.inside.replay; clocks = c.self.inside.clocks } in
+    let judge : JudgeValue = record { model = c.self.inside.model; clocks = c.self.inside.clocks } in
     let here : HasJudged W Z J judge = subst (HasJudged W Z J) (sym c.self.view_is) judged in
     may-not W Z J c.args.event.now (subst (λ b. MayBeDone W Z (length J) (last_state W J) c.args.event.now.stream.0 c.args.event.now.what b c.follow.new.self) c.if-not-branch.true (c.in_ok-follow.ensures (length J) (last_state W J) here.state here.stands))
 
@@ -33,7 +33,7 @@ follow-requires-2-clause-names g c =
     let J : List Event = c.requires.judged.0 in
     let judged = c.requires.judged.2 in
     let e = c.args.event.now in
-    let here : HasJudged W Z J (record { replay = p.self.inside.replay; clocks = p.self.inside.clocks }) = subst (HasJudged W Z J) (sym p.self.view_is) judged in
+    let here : HasJudged W Z J (record { model = p.self.inside.model; clocks = p.self.inside.clocks }) = subst (HasJudged W Z J) (sym p.self.view_is) judged in
     let done : IsDone W Z (length J) (last_state W J) e.stream.0 e.what p.follow.new.self =
     subst (λ b. MayBeDone W Z (length J) (last_state W J) e.stream.0 e.what b p.follow.new.self) p.if-not-branch.false (p.in_ok-follow.ensures (length J) (last_state W J) here.state here.stands) in
     let count : p.streams.result ≡ W.streams = p.streams.ensures.count in
@@ -48,7 +48,7 @@ follow-requires-2-clause-site g c =
     let J : List Event = c.requires.judged.0 in
     let judged = c.requires.judged.2 in
     let e = c.args.event.now in
-    let here : HasJudged W Z J (record { replay = p.self.inside.replay; clocks = p.self.inside.clocks }) = subst (HasJudged W Z J) (sym p.self.view_is) judged in
+    let here : HasJudged W Z J (record { model = p.self.inside.model; clocks = p.self.inside.clocks }) = subst (HasJudged W Z J) (sym p.self.view_is) judged in
     let done : IsDone W Z (length J) (last_state W J) e.stream.0 e.what p.follow.new.self =
     subst (λ b. MayBeDone W Z (length J) (last_state W J) e.stream.0 e.what b p.follow.new.self) p.if-not-branch.false (p.in_ok-follow.ensures (length J) (last_state W J) here.state here.stands) in
     done.site
@@ -59,7 +59,7 @@ returns g c J judged =
     let W = c.args.w.now in
     let Z = stored_with c.args.z.now (g.P.Work.returns c.args.work.now) in
     let e = c.args.event.now in
-    let here : HasJudged W Z J (record { replay = p.self.inside.replay; clocks = p.self.inside.clocks }) = subst (HasJudged W Z J) (sym p.self.view_is) judged in
+    let here : HasJudged W Z J (record { model = p.self.inside.model; clocks = p.self.inside.clocks }) = subst (HasJudged W Z J) (sym p.self.view_is) judged in
     let done : IsDone W Z (length J) (last_state W J) e.stream.0 e.what p.follow.new.self =
     subst (λ b. MayBeDone W Z (length J) (last_state W J) e.stream.0 e.what b p.follow.new.self) p.if-not-branch.false (p.in_ok-follow.ensures (length J) (last_state W J) here.state here.stands) in
     let count : p.streams.result ≡ W.streams = p.streams.ensures.count in

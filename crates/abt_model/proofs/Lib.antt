@@ -1,0 +1,13 @@
+pub mod Ending
+pub mod Following
+pub mod Hinting
+pub mod Moving
+pub mod Numbered
+pub mod Picturing
+pub mod Placing
+pub mod Rounding
+pub mod Saying
+pub mod Sites
+pub mod Starting
+pub mod Telling
+pub mod Visiting

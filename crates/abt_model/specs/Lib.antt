@@ -1,0 +1,10 @@
+pub mod Choices
+pub mod Ends
+pub mod Hints
+pub mod Keys
+pub mod Lists
+pub mod Models
+pub mod Pictures
+pub mod Starts
+pub mod Stored
+pub mod Turns
