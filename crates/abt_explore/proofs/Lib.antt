@@ -1,0 +1,17 @@
+pub mod Adding
+pub mod Changing
+pub mod Counting
+pub mod Ending
+pub mod Finding
+pub mod Following
+pub mod Forgotten
+pub mod Growing
+pub mod Meeting
+pub mod Reaching
+pub mod SameChanges
+pub mod SameEvents
+pub mod SameSound
+pub mod SameValues
+pub mod Searching
+pub mod Seeing
+pub mod Waiting

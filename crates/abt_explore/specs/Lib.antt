@@ -1,0 +1,10 @@
+pub mod Alone
+pub mod Explored
+pub mod Laws
+pub mod Orders
+pub mod Paths
+pub mod Same
+pub mod Searches
+pub mod Seen
+pub mod Texts
+pub mod Unnumbered
