@@ -8,12 +8,12 @@ use Rattle.abt_machine.specs.Limits.{adder_limit}
 use Rattle.abt_machine.specs.Spelling.{SaysNumber}
 use Rattle.abt_machine.specs.Words.{Text}
 use Rattle.abt_words.specs.declared.commands.Command.{Command}
-use Rattle.abt_words.specs.Commands.{Rest, SaysBy, only, rest_of}
+use Rattle.abt_words.specs.Commands.{Rest, SaysAtMostOne, SaysBy, only, rest_of, state_limit}
 use Rattle.abt_words.specs.Apps.{alone_app}
 use Rattle.abt_words.specs.Asked.{at_most_one}
 use Rattle.abt_words.proofs.Endings.{last}
 use Rattle.abt_words.proofs.Found.{all-texts}
-use Rattle.abt_words.proofs.Names.{by-check, by-flow, by-self}
+use Rattle.abt_words.proofs.Names.{by-check, by-explore, by-flow, by-self}
 use Rattle.abt_words.proofs.OneOrTwo.{Finds, HasFirst, Said, alone_at, alone-fault, alone-matches, alone_next, alone-outcome, alone_top, none, says}
 use Rattle.abt_words.proofs.WordsAlone.{Lead, Whole}
 
@@ -116,3 +116,12 @@ flow-needs-one r never = by-flow r (λ c. ⊥) (λ f says. never f says.0)
 
 pub check-needs-two : (r : Rest) → ((v w : Text) → r ≡ only (v ∷ w ∷ []) → ⊥) → (c : Command) → SaysBy (codes "check") r c → ⊥
 check-needs-two r never = by-check r (λ c. ⊥) (λ v w says. never v w says.0)
+
+-- without one word or two no end is asked for
+pub explore-needs-words : (r : Rest) → ((v : Text) (o : Option Text) → r ≡ only (v ∷ at_most_one o) → ⊥) → (c : Command) → SaysBy (codes "explore") r c → ⊥
+explore-needs-words r never = by-explore r (λ c. ⊥) (λ f e says. by f e says.0 says.1 says.3)
+  where
+    by : (f : Text) (e : Option ℕ) (ends : List Text) → r ≡ only (f ∷ ends) → SaysAtMostOne state_limit ends e → ⊥
+    by f e [] is asks = never f None is
+    by f e (k ∷ []) is asks = never f (Some k) is
+    by f e (k ∷ l ∷ ks) is asks = asks

@@ -52,12 +52,16 @@ rest_of false (w ∷ ws) =
     else if is_option w then and_other (rest_of false ws)
     else and_word w (rest_of false ws)
 
+-- at most one word asks for a number, which is from 1 to this
+abbrev pub SaysAtMostOne : ℕ → List Text → Option ℕ → Type 0
+SaysAtMostOne most [] asked = asked ≡ None
+SaysAtMostOne most (v ∷ []) None = ⊥
+SaysAtMostOne most (v ∷ []) (Some n) = SaysNumber most v n
+SaysAtMostOne most (v ∷ w ∷ vs) asked = ⊥
+
 -- at most one option asks for steps, and for no more than the last format allows
 abbrev pub SaysSteps : List Text → Option ℕ → Type 0
-SaysSteps [] asked = asked ≡ None
-SaysSteps (v ∷ []) None = ⊥
-SaysSteps (v ∷ []) (Some n) = SaysNumber (step_limit_of format.Three) v n
-SaysSteps (v ∷ w ∷ vs) asked = ⊥
+SaysSteps = SaysAtMostOne (step_limit_of format.Three)
 
 abbrev pub journal_count : Bool → ℕ
 journal_count false = 0
@@ -81,11 +85,20 @@ SaysFiles r first second =
 abbrev pub SaysFile : Rest → Text → Type 0
 SaysFile r file = (r ≡ only (file ∷ [])) × (file ≢ [])
 
+-- the greatest number of states that are explored, and so of ends
+abbrev pub state_limit : ℕ
+state_limit = 1000000
+
+-- one FILE, of at least one byte, and at most one word that asks for the end of a number
+abbrev pub SaysExplore : Rest → Text → Option ℕ → Type 0
+SaysExplore r file end = (ends : List Text) × (r ≡ only (file ∷ ends)) × (file ≢ []) × SaysAtMostOne state_limit ends end
+
 abbrev pub name_of : Command → Text
 name_of (command.Run file steps journal) = codes "run"
 name_of (command.SelfRun units) = codes "self"
 name_of (command.Check workload journal) = codes "check"
 name_of (command.Flow file) = codes "flow"
+name_of (command.Explore file end) = codes "explore"
 
 -- the rest is the command's own
 abbrev pub SaysRest : Rest → Command → Type 0
@@ -93,6 +106,7 @@ SaysRest r (command.Run file steps journal) = SaysRun r file steps journal
 SaysRest r (command.SelfRun units) = SaysSelf r units
 SaysRest r (command.Check workload journal) = SaysFiles r workload journal
 SaysRest r (command.Flow file) = SaysFile r file
+SaysRest r (command.Explore file end) = SaysExplore r file end
 
 -- a name and a rest say the command
 abbrev pub SaysBy : Text → Rest → Command → Type 0

@@ -9,8 +9,8 @@ use crate::WordFault;
 use crate::clap_commands::{alone_command, found};
 use std::alloc::Global;
 
-// The word that stands there, and the second, if one follows.
-fn words_alone<'a>(
+/// The word that stands there, and the second, if one follows.
+pub(crate) fn words_alone<'a>(
     alloc: Global,
     rest: &'a [String],
 ) -> Result<(&'a str, Option<&'a str>), WordFault>

@@ -6,13 +6,14 @@ ghost use Rattle.abt_words.specs.Commands.{Says};
 
 use crate::WordFault;
 use crate::commands::Command;
+use crate::explore::explore;
 use crate::on_files::{check, flow};
 use crate::run::run;
 use crate::self_run::self_run;
 use std::alloc::Global;
 
 /// The command that the words after the program's name say: `run FILE [--steps V] [--journal]`, with the options in any
-/// order, `self N`, `check WORKLOAD JOURNAL` or `flow FILE`.
+/// order, `self N`, `check WORKLOAD JOURNAL`, `flow FILE` or `explore FILE [K]`.
 pub fn words(alloc: Global, list: &[String]) -> Result<Command, WordFault>
     ensures said { IfOk result (λ c. Says (map string_bytes list.now) c) }
     ensures only { IfOk result (λ c. (d : Command) → Says (map string_bytes list.now) d → d ≡ c) }
@@ -26,6 +27,7 @@ pub fn words(alloc: Global, list: &[String]) -> Result<Command, WordFault>
         "self" => self_run(alloc, rest),
         "check" => check(alloc, rest),
         "flow" => flow(alloc, rest),
+        "explore" => explore(alloc, rest),
         _ => Err(WordFault::Bad),
     }
 }

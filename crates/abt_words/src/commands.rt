@@ -25,4 +25,9 @@ pub enum Command {
     Flow {
         file: Text,
     },
+    /// Each way in which the workload in a file can end, or the one of this number with a journal that leads to it.
+    Explore {
+        file: Text,
+        end: Option<u64>,
+    },
 }

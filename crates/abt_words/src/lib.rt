@@ -9,6 +9,7 @@ mod alone;
 mod clap_commands;
 mod command;
 mod commands;
+mod explore;
 mod fault;
 mod numbers;
 mod on_files;
@@ -18,6 +19,7 @@ mod steps;
 
 pub use command::words;
 pub use commands::Command;
+pub use explore::MOST_STATES;
 pub use fault::WordFault;
 pub use numbers::number;
 pub use steps::{DEFAULT_STEPS, allowed_steps, default_steps};

@@ -1,14 +1,14 @@
 //! The words after `run`.
 
-ghost use Rattle.std.specs.Prelude.{◌≡◌, ℕ, IfOk, Option, false, map, option_map, string_bytes, codes};
+ghost use Rattle.std.specs.Prelude.{◌≡◌, IfOk, false, map, string_bytes, codes};
 ghost use Rattle.abt_words.specs.declared.commands.Command.{Command};
-ghost use Rattle.abt_words.specs.Commands.{SaysBy, SaysSteps, rest_of};
-ghost use Rattle.abt_words.specs.Asked.{at_most_one, rest_as};
+ghost use Rattle.abt_words.specs.Commands.{SaysBy, rest_of};
+ghost use Rattle.abt_words.specs.Asked.{rest_as};
 
 use crate::WordFault;
 use crate::clap_commands::{found, run_command};
 use crate::commands::Command;
-use crate::numbers::number;
+use crate::numbers::optional_number;
 use crate::steps::MOST_STEPS;
 use abt_machine::Text;
 use std::alloc::Global;
@@ -34,21 +34,6 @@ fn run_words<'a>(alloc: Global, rest: &'a [String]) -> Result<RunWords<'a>, Word
     })
 }
 
-// The steps for each stream that the option's value asks for, if the option is there.
-#[tactic(auto, using(crate::proofs::Asking::asks_none))]
-fn asked_steps(value: Option<&str>) -> Result<Option<u64>, WordFault>
-    ensures said { IfOk result (λ asked. SaysSteps (at_most_one (option_map (λ v. v.now) value.entry)) asked) }
-    ensures bad { result ≡ Err WordFault.Bad → (asked : Option ℕ) → SaysSteps (at_most_one (option_map (λ v. v.now) value.entry)) asked → ⊥ }
-{
-    let Some(text) = value else {
-        return Ok(None);
-    };
-    match number(text, MOST_STEPS) {
-        Some(steps) => Ok(Some(steps)),
-        None => Err(WordFault::Bad),
-    }
-}
-
 // The command that the words ask for.
 fn asked_run(alloc: Global, asked: RunWords) -> Result<Command, WordFault>
     ensures said { IfOk result (λ c. SaysBy (codes "run") (rest_as asked.entry) c) }
@@ -57,7 +42,7 @@ fn asked_run(alloc: Global, asked: RunWords) -> Result<Command, WordFault>
     if asked.file.is_empty() {
         return Err(WordFault::Bad);
     }
-    let steps = asked_steps(asked.steps)?;
+    let steps = optional_number(asked.steps, MOST_STEPS)?;
     Ok(Command::Run {
         file: Text::new(String::from_str(alloc, asked.file)?),
         steps,

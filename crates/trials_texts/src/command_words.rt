@@ -6,17 +6,19 @@ use std::alloc::{AllocError, Global};
 use std::test::Fail;
 
 // A command: to run a file, with the steps of each stream, if they are asked for, and whether the journal is wanted; to run what is
-// made of so many units; to check the journal of the second file against the workload of the first; and to ask for the flow of a file.
+// made of so many units; to check the journal of the second file against the workload of the first; to ask for the flow of a file; and to
+// ask for its ends, or for the end of a number.
 #[derive(Clone, Copy)]
 enum Wanted {
     Run(&'static str, Option<u64>, bool),
     SelfRun(u32),
     Check(&'static str, &'static str),
     Flow(&'static str),
+    Explore(&'static str, Option<u64>),
 }
 
 // Words with a comma between each two, and the command that they say.
-static SAID: [(&str, Wanted); 35] = [
+static SAID: [(&str, Wanted); 41] = [
     ("run,f", Wanted::Run("f", None, false)),
     ("run,run", Wanted::Run("run", None, false)),
     ("run,-", Wanted::Run("-", None, false)),
@@ -67,10 +69,16 @@ static SAID: [(&str, Wanted); 35] = [
     ("flow,f", Wanted::Flow("f")),
     ("flow,-", Wanted::Flow("-")),
     ("flow,--,--", Wanted::Flow("--")),
+    ("explore,f", Wanted::Explore("f", None)),
+    ("explore,-", Wanted::Explore("-", None)),
+    ("explore,f,3", Wanted::Explore("f", Some(3))),
+    ("explore,f,003", Wanted::Explore("f", Some(3))),
+    ("explore,f,1000000", Wanted::Explore("f", Some(1_000_000))),
+    ("explore,--,-f,1", Wanted::Explore("-f", Some(1))),
 ];
 
 // Words that spell nothing.
-static REFUSED: [&str; 73] = [
+static REFUSED: [&str; 82] = [
     "",
     "walk",
     "Run,f",
@@ -144,6 +152,15 @@ static REFUSED: [&str; 73] = [
     "flow,f,g",
     "flow,-f",
     "flow,f,--steps,5",
+    "explore",
+    "explore,",
+    "explore,,1",
+    "explore,f,0",
+    "explore,f,1000001",
+    "explore,f,+1",
+    "explore,f,x",
+    "explore,f,1,2",
+    "explore,f,--journal",
 ];
 
 // The words of a row.
@@ -181,6 +198,9 @@ fn is_command(command: &Command, wanted: &Wanted) -> bool {
             workload.as_str() == *first && journal.as_str() == *second
         }
         (Command::Flow { file }, Wanted::Flow(name)) => file.as_str() == *name,
+        (Command::Explore { file, end }, Wanted::Explore(name, wanted)) => {
+            file.as_str() == *name && end == wanted
+        }
         _ => false,
     }
 }
