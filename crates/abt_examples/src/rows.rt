@@ -550,3 +550,55 @@ pub(crate) static FLOWS: [Row<'static>; 7] = [
         ..FLOW
     },
 ];
+
+// The ends of a workload, over one pool.
+const EXPLORE: Row<'static> = Row {
+    words: "explore f",
+    lines: b"units 1\nunit 0 ult at 0\nprint\nend\n",
+    journal: Some(""),
+    ..RUN
+};
+
+/// Ends. A stream that takes, looks at, steps and ends one unit has been in four states before its end, and is in one more once it has
+/// missed.
+pub(crate) static ENDS: [Row<'static>; 6] = [
+    // all ends
+    Row {
+        out: "states 6\nend 1 finished events 4\nunit 0 done: 0\ntally units 1 unborn 0 pool 0 stream 0 blocked 0 done 1 asked 0 access 0 steps 1\nfinished\n",
+        ..EXPLORE
+    },
+    // one of them
+    Row {
+        words: "explore f 1",
+        out: "1 0 take 0 0\n2 0 look 0\n3 0 step 0 0 ok\n4 0 end 0 done\nunit 0 done: 0\ntally units 1 unborn 0 pool 0 stream 0 blocked 0 done 1 asked 0 access 0 steps 1\nfinished\n",
+        ..EXPLORE
+    },
+    // one that is not there
+    Row {
+        words: "explore f 2",
+        status: 8,
+        out: "ends 1\n",
+        ..EXPLORE
+    },
+    // a stuck one
+    Row {
+        lines: b"units 1\nunit 0 ult at 0\nsuspend\nend\n",
+        status: 1,
+        out: "states 5\nend 1 stuck events 3\nunit 0 suspended:\ntally units 1 unborn 0 pool 0 stream 0 blocked 1 done 0 asked 0 access 0 steps 1\nstuck\n",
+        ..EXPLORE
+    },
+    // an order that changes
+    Row {
+        head: "abt 1\nstreams 1\npool 0 fifo mpmc\npool 1 fifo mpmc\nsched 0 randws 7 0 1\nstream 0 main 0\n",
+        status: 8,
+        out: "scheduler 0 changes its order\n",
+        ..EXPLORE
+    },
+    // refused
+    Row {
+        lines: b"units 1\nend\n",
+        status: 3,
+        err: "abtrun: line 7: missing\n",
+        ..EXPLORE
+    },
+];

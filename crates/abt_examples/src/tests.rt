@@ -4,7 +4,7 @@ use crate::calls::{check, check_all, check_keeping};
 use crate::checks::CHECKS;
 use crate::formats::{FINISHED, ONE_POOL_OF_TWO, REFUSED};
 use crate::refusals::{REFUSALS, SHORT_WRITE, refused_row};
-use crate::rows::{FLOWS, OBJECTS, REQUESTS, RUN, Row, SCHEDULERS, STREAMS, UNITS};
+use crate::rows::{ENDS, FLOWS, OBJECTS, REQUESTS, RUN, Row, SCHEDULERS, STREAMS, UNITS};
 use abt_run::Keep;
 use std::test::Fail;
 
@@ -22,6 +22,7 @@ fn calls_leave_what_their_rows_say(rt: HostRuntime) -> Result<(), Fail> {
     check_all(&rt, alloc, &REQUESTS)?;
     check_all(&rt, alloc, &OBJECTS)?;
     check_all(&rt, alloc, &FLOWS)?;
+    check_all(&rt, alloc, &ENDS)?;
     check_all(&rt, alloc, &CHECKS)?;
     for _ in 0..TIMES {
         check_all(&rt, alloc, &STREAMS)?;

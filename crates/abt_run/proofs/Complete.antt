@@ -40,12 +40,13 @@ use Rattle.abt_shell.proofs.Fetched.{of-observed}
 use Rattle.abt_run.specs.Call.{Call, Decides, IsAnswered, IsOfRun, MissesFiles, MissesJournals, RefusesSteps, RunsKnown, program}
 use Rattle.abt_run.specs.Given.{Compares, Given, IsReadFrom, SaysNothing, Tells, workload_file}
 use Rattle.abt_run.specs.Prepared.{HasNoWorkload, IsBadCommand, LacksSecond}
+use Rattle.abt_run.specs.Ends.{ShowsEnds}
 use Rattle.abt_run.specs.Printed.{AsksFlow, HasVerdict, IsFor, Prints, Ran}
 use Rattle.abt_run.specs.Status.{number_of_conclusion}
 use Rattle.abt_run.specs.declared.keeping.Keep.{Keep}
 use Rattle.abt_run.specs.Steps.{AsksBeyond, MayMake}
 use Rattle.abt_run.specs.declared.status.Conclusion.{Conclusion}
-use Rattle.abt_run.specs.declared.status.Conclusion.TheVariants.{Ended, Judged, Flows, NotConfluent, Undefined}
+use Rattle.abt_run.specs.declared.status.Conclusion.TheVariants.{Ended, Judged, Flows, NotConfluent, Undefined, Finishes, Sticks, GoesOn, Unexplored}
 use Rattle.abt_run.proofs.Preparing.{none-is, some-is}
 use Rattle.abt_run.proofs.Stepping.{check-asks-none, flow-asks-none, same-steps}
 use Rattle.abt_run.proofs.Texts.{one-journal}
@@ -105,12 +106,19 @@ flow-is f e same = cc
 check-is-no-flow : (w j f : Text) → command.Check w j ≡ command.Flow f → ⊥
 check-is-no-flow w j f e = cc
 
+check-is-no-search : (w j f : Text) (end : Option ℕ) → command.Check w j ≡ command.Explore f end → ⊥
+check-is-no-search w j f end e = cc
+
+flow-is-no-search : (f e : Text) (end : Option ℕ) → command.Flow f ≡ command.Explore e end → ⊥
+flow-is-no-search f e end same = cc
+
 -- a command that runs a workload reads it from its file
 runs-read : (g : Given) (d : Command) (file : Text) (W : Parts) → IsFor d g W → workload_file d ≡ Some file → IsReadFrom g file W
 runs-read g (command.Run f steps journal) file W is names = subst (λ (n : Text). IsReadFrom g n W) (some-is f file names) is
 runs-read g (command.SelfRun units) file W is names = absurd (none-is file names)
 runs-read g (command.Check w j) file W is names = absurd is
 runs-read g (command.Flow f) file W is names = absurd is
+runs-read g (command.Explore f end) file W is names = absurd is
 
 -- the known workload of a command is that which it runs
 runs-same : (g : Given) (d : Command) (W V : Parts) → RunsKnown d g W → IsFor d g V → V ≡ W
@@ -118,6 +126,7 @@ runs-same g (command.Run file steps journal) W V known is = same-workload g file
 runs-same g (command.SelfRun units) W V known is = is ∙ sym known
 runs-same g (command.Check w j) W V known is = absurd known
 runs-same g (command.Flow f) W V known is = absurd known
+runs-same g (command.Explore f end) W V known is = absurd known
 
 -- and it is not refused
 runs-not-refused : (g : Given) (d : Command) (file : Text) (W : Parts) (line : ℕ) (f : Fault) → RunsKnown d g W → workload_file d ≡ Some file
@@ -127,6 +136,7 @@ runs-not-refused g (command.Run name steps journal) file W line f known names is
 runs-not-refused g (command.SelfRun units) file W line f known names is = none-is file names
 runs-not-refused g (command.Check w j) file W line f known names is = known
 runs-not-refused g (command.Flow name) file W line f known names is = known
+runs-not-refused g (command.Explore name end) file W line f known names is = known
 
 -- and is valid
 runs-valid : (g : Given) (d : Command) (W : Parts) → Says g.words d → RunsKnown d g W → IsValid W
@@ -138,6 +148,7 @@ runs-valid g (command.SelfRun units) W says known = by g.words says
     by (name ∷ ws) said = subst IsValid (sym known) (IsValid-generated units said.1.2.3)
 runs-valid g (command.Check w j) W says known = absurd known
 runs-valid g (command.Flow f) W says known = absurd known
+runs-valid g (command.Explore f end) W says known = absurd known
 
 -- What is printed determines the command.
 
@@ -148,6 +159,10 @@ module _ (g : Given) (keep : Keep) (J : Option (List Event)) (text : Text) where
   printed-says Flows prints = (_, prints.0.asks.says)
   printed-says NotConfluent prints = (_, prints.0.asks.says)
   printed-says Undefined prints = (_, prints.0.asks.says)
+  printed-says Finishes prints = (_, prints.0.asks.says)
+  printed-says Sticks prints = (_, prints.0.asks.says)
+  printed-says GoesOn prints = (_, prints.0.asks.says)
+  printed-says Unexplored prints = (_, prints.0.asks.says)
 
   module _ (d : Command) (file : Text) (says : Says g.words d) (names : workload_file d ≡ Some file) where
     ran-reads : (o : Outcome) → Ran g keep J o text → (W : Parts) × IsReadFrom g file W
@@ -157,6 +172,12 @@ module _ (g : Given) (keep : Keep) (J : Option (List Event)) (text : Text) where
     flow-reads W asks =
         let same : asks.file ≡ file = some-is asks.file file (ap workload_file (one-command g.words (command.Flow asks.file) d asks.says says) ∙ names) in
         (W, subst (λ (n : Text). IsReadFrom g n W) same asks.reads)
+
+    ends-read : (c : Conclusion) → ShowsEnds g c text → (V : Parts) × IsReadFrom g file V
+    ends-read c shows =
+        let same : shows.asks.file ≡ file =
+        some-is shows.asks.file file (ap workload_file (one-command g.words (command.Explore shows.asks.file shows.asked) d shows.asks.says says) ∙ names) in
+        (shows.workload, subst (λ (n : Text). IsReadFrom g n shows.workload) same shows.asks.reads)
 
     -- a workload is read from the file that the words name
     printed-reads : (c : Conclusion) → Prints g keep c J text → (W : Parts) × IsReadFrom g file W
@@ -168,6 +189,10 @@ module _ (g : Given) (keep : Keep) (J : Option (List Event)) (text : Text) where
     printed-reads Flows prints = flow-reads prints.0.workload prints.0.asks
     printed-reads NotConfluent prints = flow-reads prints.0.workload prints.0.asks
     printed-reads Undefined prints = flow-reads prints.0.workload prints.0.asks
+    printed-reads Finishes prints = ends-read Finishes prints.0
+    printed-reads Sticks prints = ends-read Sticks prints.0
+    printed-reads GoesOn prints = ends-read GoesOn prints.0
+    printed-reads Unexplored prints = ends-read Unexplored prints.0
 
   -- words that ask for a check print a verdict
   module _ (w j : Text) (says : Says g.words (command.Check w j)) where
@@ -177,12 +202,19 @@ module _ (g : Given) (keep : Keep) (J : Option (List Event)) (text : Text) where
     no-flow : (W : Parts) → AsksFlow g W → ⊥
     no-flow W asks = check-is-no-flow w j asks.file (one-command g.words (command.Check w j) (command.Flow asks.file) says asks.says)
 
+    no-ends : (c : Conclusion) → ShowsEnds g c text → ⊥
+    no-ends c shows = check-is-no-search w j shows.asks.file shows.asked (one-command g.words (command.Check w j) (command.Explore shows.asks.file shows.asked) says shows.asks.says)
+
     printed-verdict : (c : Conclusion) → Prints g keep c J text → (v : Verdict) × HasVerdict g v × (c ≡ Judged v)
     printed-verdict (Ended o) prints = absurd (no-run o prints)
     printed-verdict (Judged v) prints = (v, prints.0, refl)
     printed-verdict Flows prints = absurd (no-flow prints.0.workload prints.0.asks)
     printed-verdict NotConfluent prints = absurd (no-flow prints.0.workload prints.0.asks)
     printed-verdict Undefined prints = absurd (no-flow prints.0.workload prints.0.asks)
+    printed-verdict Finishes prints = absurd (no-ends Finishes prints.0)
+    printed-verdict Sticks prints = absurd (no-ends Sticks prints.0)
+    printed-verdict GoesOn prints = absurd (no-ends GoesOn prints.0)
+    printed-verdict Unexplored prints = absurd (no-ends Unexplored prints.0)
 
     -- and the journal is read from the second file
     compared-journal : (W : Parts) (Is : Text → Type 0) → Compares g W Is → IsReadFrom g w W × IfSome (g.file j) Is
@@ -198,6 +230,9 @@ module _ (g : Given) (keep : Keep) (J : Option (List Event)) (text : Text) where
 
     flow-no-check : (W : Parts) (Is : Text → Type 0) → Compares g W Is → ⊥
     flow-no-check W Is compares = check-is-no-flow _ _ file (one-command g.words (command.Check compares.workload compares.journal) (command.Flow file) compares.says says)
+
+    flow-no-ends : (c : Conclusion) → ShowsEnds g c text → ⊥
+    flow-no-ends c shows = flow-is-no-search file shows.asks.file shows.asked (one-command g.words (command.Flow file) (command.Explore shows.asks.file shows.asked) says shows.asks.says)
 
     flow-asked : (W V : Parts) → Tells g file (λ bytes. Reads bytes W) → AsksFlow g V → V ≡ W
     flow-asked W V tells asks =
@@ -220,6 +255,10 @@ runs-concluded (Judged v) call text d W prints says known =
 runs-concluded Flows call text d W prints says known = absurd (subst (λ (x : Command). RunsKnown x call.given W) (one-command call.given.words d _ says prints.0.asks.says) known)
 runs-concluded NotConfluent call text d W prints says known = absurd (subst (λ (x : Command). RunsKnown x call.given W) (one-command call.given.words d _ says prints.0.asks.says) known)
 runs-concluded Undefined call text d W prints says known = absurd (subst (λ (x : Command). RunsKnown x call.given W) (one-command call.given.words d _ says prints.0.asks.says) known)
+runs-concluded Finishes call text d W prints says known = absurd (subst (λ (x : Command). RunsKnown x call.given W) (one-command call.given.words d _ says prints.0.asks.says) known)
+runs-concluded Sticks call text d W prints says known = absurd (subst (λ (x : Command). RunsKnown x call.given W) (one-command call.given.words d _ says prints.0.asks.says) known)
+runs-concluded GoesOn call text d W prints says known = absurd (subst (λ (x : Command). RunsKnown x call.given W) (one-command call.given.words d _ says prints.0.asks.says) known)
+runs-concluded Unexplored call text d W prints says known = absurd (subst (λ (x : Command). RunsKnown x call.given W) (one-command call.given.words d _ says prints.0.asks.says) known)
 
 -- words that say a command and do not ask for too many steps are not refused
 not-bad-words : (g : Given) (d : Command) → Says g.words d → (AsksBeyond g → ⊥) → IsBadCommand g → ⊥
@@ -292,6 +331,10 @@ module _ (c : Call) (file : Text) (W : Parts) (says : Says c.given.words (comman
   flow-concluded Undefined text prints =
       let same = flow-asked c.given c.keep c.journal text file says W prints.0.workload tells prints.0.asks in
       inr (λ has. prints.0.none has.1.0 (subst (λ (V : Parts). IsFlow V c.given.stored.returns has.1.0) (sym same) has.1.1), refl)
+  flow-concluded Finishes text prints = absurd (flow-no-ends c.given c.keep c.journal text file says Finishes prints.0)
+  flow-concluded Sticks text prints = absurd (flow-no-ends c.given c.keep c.journal text file says Sticks prints.0)
+  flow-concluded GoesOn text prints = absurd (flow-no-ends c.given c.keep c.journal text file says GoesOn prints.0)
+  flow-concluded Unexplored text prints = absurd (flow-no-ends c.given c.keep c.journal text file says Unexplored prints.0)
 
   flows : (s : Status Conclusion) → Holds (program c) c.left s → IsStill c.left → Decides (number_of number_of_conclusion s) (HasFlows c.given.stored.returns W) ⊎ (number_of number_of_conclusion s ≡ 7)
   flows (Concluded k) h still = inl (flow-concluded k h.text h.prints)
@@ -327,6 +370,10 @@ module _ (c : Call) (d : Command) (W : Parts) (steps : ℕ) (two : 2 ≤ length 
   spends-concluded Flows text prints = λ e. absurd (omega arith)
   spends-concluded NotConfluent text prints = λ e. absurd (omega arith)
   spends-concluded Undefined text prints = λ e. absurd (omega arith)
+  spends-concluded Finishes text prints = absurd (subst (λ (x : Command). RunsKnown x c.given W) (one-command c.given.words d _ says prints.0.asks.says) known)
+  spends-concluded Sticks text prints = absurd (subst (λ (x : Command). RunsKnown x c.given W) (one-command c.given.words d _ says prints.0.asks.says) known)
+  spends-concluded GoesOn text prints = absurd (subst (λ (x : Command). RunsKnown x c.given W) (one-command c.given.words d _ says prints.0.asks.says) known)
+  spends-concluded Unexplored text prints = absurd (subst (λ (x : Command). RunsKnown x c.given W) (one-command c.given.words d _ says prints.0.asks.says) known)
 
   spends : (s : Status Conclusion) → Holds (program c) c.left s → number_of number_of_conclusion s ≢ 4
   spends (Concluded k) h = spends-concluded k h.text h.prints
@@ -382,13 +429,17 @@ no-fault outcome.Finished n high = λ e. absurd (omega arith)
 no-fault outcome.Stuck n high = λ e. absurd (omega arith)
 no-fault (outcome.Budget s) n high = λ e. absurd (omega arith)
 
-none-concludes : (n : ℕ) → 5 ≤ n → (k : Conclusion) → number_of_conclusion k ≢ n
-none-concludes n high (Ended o) = no-fault o n high
-none-concludes n high (Judged verdict.Run) = λ e. absurd (omega arith)
-none-concludes n high (Judged (verdict.Bad at)) = λ e. absurd (omega arith)
-none-concludes n high Flows = λ e. absurd (omega arith)
-none-concludes n high NotConfluent = λ e. absurd (omega arith)
-none-concludes n high Undefined = λ e. absurd (omega arith)
+none-concludes : (n : ℕ) → 5 ≤ n → n ≤ 6 → (k : Conclusion) → number_of_conclusion k ≢ n
+none-concludes n high low (Ended o) = no-fault o n high
+none-concludes n high low (Judged verdict.Run) = λ e. absurd (omega arith)
+none-concludes n high low (Judged (verdict.Bad at)) = λ e. absurd (omega arith)
+none-concludes n high low Flows = λ e. absurd (omega arith)
+none-concludes n high low NotConfluent = λ e. absurd (omega arith)
+none-concludes n high low Undefined = λ e. absurd (omega arith)
+none-concludes n high low Finishes = λ e. absurd (omega arith)
+none-concludes n high low Sticks = λ e. absurd (omega arith)
+none-concludes n high low GoesOn = λ e. absurd (omega arith)
+none-concludes n high low Unexplored = λ e. absurd (omega arith)
 
 -- a call that ended with this exit status is answered
 pub answered : (n : ℕ) (c : Call) → 2 ≤ length c.given.stored.orders → EndsBy (program c) c.left n → MissesFiles n c → MissesJournals n c → RefusesSteps n c → (HasReadFault c.left → (n ≡ 5) ⊎ (n ≡ 7)) → IsAnswered n c
@@ -406,7 +457,7 @@ answered n c two ends absent missing exceeds faulty = by ends.0 ends.1 ends.2 wh
     spends = λ d W steps says known may none few. spends c d W steps two says known may none few s h;
     absent = subst (λ m. MissesFiles m c) is absent;
     missing = subst (λ m. MissesJournals m c) is missing;
-    reads = reads-well (program c) c.left (none-concludes 5 (omega arith)) (λ cause. cause.why.1) s h;
+    reads = reads-well (program c) c.left (none-concludes 5 (omega arith) (omega arith)) (λ cause. cause.why.1) s h;
     faulty = subst (λ m. HasReadFault c.left → (m ≡ 5) ⊎ (m ≡ 7)) is faulty;
-    writes = writes-well (program c) c.left (none-concludes 6 (omega arith)) s h;
+    writes = writes-well (program c) c.left (none-concludes 6 (omega arith) (omega arith)) s h;
   })

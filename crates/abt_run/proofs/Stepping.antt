@@ -77,6 +77,7 @@ same-steps g (command.Run file asked journal) W m n known one two = same-number 
 same-steps g (command.SelfRun units) W m n known one two = one ∙ sym two
 same-steps g (command.Check w j) W m n known one two = absurd one
 same-steps g (command.Flow file) W m n known one two = absurd one
+same-steps g (command.Explore file end) W m n known one two = absurd one
 
 -- Commands.
 
@@ -96,6 +97,9 @@ exceeds-same file_of e f now a b j k same is known =
 
 run-is-no-check : (file w j : Text) (asked : Option ℕ) (b : Bool) → command.Run file asked b ≡ command.Check w j → ⊥
 run-is-no-check file w j asked b e = cc
+
+run-is-no-search : (file f : Text) (asked end : Option ℕ) (b : Bool) → command.Run file asked b ≡ command.Explore f end → ⊥
+run-is-no-search file f asked end b e = cc
 
 run-is-no-flow : (file f : Text) (asked : Option ℕ) (b : Bool) → command.Run file asked b ≡ command.Flow f → ⊥
 run-is-no-flow file f asked b e = cc

@@ -58,6 +58,7 @@ RunsKnown (command.Run file steps journal) g W = Tells g file (λ bytes. Reads b
 RunsKnown (command.SelfRun units) g W = W ≡ generated units
 RunsKnown (command.Check workload journal) g W = ⊥
 RunsKnown (command.Flow file) g W = ⊥
+RunsKnown (command.Explore file end) g W = ⊥
 
 -- the status of a run that was written whole
 abbrev pub IsOfRun : ℕ → Type 0

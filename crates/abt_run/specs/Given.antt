@@ -29,6 +29,7 @@ workload_file (command.Run file steps journal) = Some file
 workload_file (command.SelfRun units) = None
 workload_file (command.Check workload journal) = Some workload
 workload_file (command.Flow file) = Some file
+workload_file (command.Explore file end) = Some file
 
 -- the words name a file with a workload
 pub record NamesFile (words : List Text) : Type 0 where

@@ -11,6 +11,7 @@ prints_journal (command.Run file steps journal) = journal
 prints_journal (command.SelfRun units) = false
 prints_journal (command.Check workload journal) = false
 prints_journal (command.Flow file) = false
+prints_journal (command.Explore file end) = false
 
 -- a run keeps its journal, if it is printed, or if it is not
 abbrev pub keeps : Keep → Bool → Bool

@@ -24,12 +24,13 @@ use Rattle.abt_report.specs.Pictures.{IsPictureOf}
 use Rattle.abt_words.specs.declared.commands.Command.{Command}
 use Rattle.abt_words.specs.declared.commands.Command.TheVariants as command
 use Rattle.abt_words.specs.Commands.{Says}
+use Rattle.abt_run.specs.Ends.{ShowsEnds}
 use Rattle.abt_run.specs.Given.{Compares, Given, IsReadFrom}
 use Rattle.abt_run.specs.Kept.{keeps, prints_journal}
 use Rattle.abt_run.specs.Steps.{MayMake}
 use Rattle.abt_run.specs.declared.keeping.Keep.{Keep}
 use Rattle.abt_run.specs.declared.status.Conclusion.{Conclusion}
-use Rattle.abt_run.specs.declared.status.Conclusion.TheVariants.{Ended, Judged, Flows, NotConfluent, Undefined}
+use Rattle.abt_run.specs.declared.status.Conclusion.TheVariants.{Ended, Judged, Flows, NotConfluent, Undefined, Finishes, Sticks, GoesOn, Unexplored}
 
 -- Runs.
 
@@ -39,6 +40,7 @@ IsFor (command.Run file steps journal) g W = IsReadFrom g file W
 IsFor (command.SelfRun units) g W = W ≡ generated units
 IsFor (command.Check workload journal) g W = ⊥
 IsFor (command.Flow file) g W = ⊥
+IsFor (command.Explore file end) g W = ⊥
 
 -- what a command prints of a run of W, by its last state, its journal and its outcome: the journal if it is asked for and the report, or
 -- the short report
@@ -47,6 +49,7 @@ output_text W S J o (command.Run file steps journal) = (if journal then journal_
 output_text W S J o (command.SelfRun units) = short_text W S (steps_in J) o
 output_text W S J o (command.Check workload journal) = []
 output_text W S J o (command.Flow file) = []
+output_text W S J o (command.Explore file end) = []
 
 -- J is the journal of a run that left this, which has it if it is to be printed
 pub record IsShownIn (W : Parts) (prints : Bool) (J : List Event) (left : Run) : Type 0 where
@@ -123,3 +126,7 @@ Prints g keep (Judged v) answered text = HasVerdict g v × (text ≡ verdict_tex
 Prints g keep Flows answered text = HasFlow g text × (answered ≡ None)
 Prints g keep NotConfluent answered text = IsNotConfluent g × (text ≡ codes "not confluent\n") × (answered ≡ None)
 Prints g keep Undefined answered text = HasNoFlow g × (text ≡ codes "undefined\n") × (answered ≡ None)
+Prints g keep Finishes answered text = ShowsEnds g Finishes text × (answered ≡ None)
+Prints g keep Sticks answered text = ShowsEnds g Sticks text × (answered ≡ None)
+Prints g keep GoesOn answered text = ShowsEnds g GoesOn text × (answered ≡ None)
+Prints g keep Unexplored answered text = ShowsEnds g Unexplored text × (answered ≡ None)

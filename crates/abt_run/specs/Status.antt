@@ -4,7 +4,7 @@ use Rattle.abt_machine.specs.Words.{Text}
 use Rattle.abt_check.specs.declared.verdict.Verdict.TheVariants as verdict
 use Rattle.abt_shell.specs.Status.{number_of_outcome}
 use Rattle.abt_run.specs.declared.status.Conclusion.{Conclusion}
-use Rattle.abt_run.specs.declared.status.Conclusion.TheVariants.{Ended, Judged, Flows, NotConfluent, Undefined}
+use Rattle.abt_run.specs.declared.status.Conclusion.TheVariants.{Ended, Judged, Flows, NotConfluent, Undefined, Finishes, Sticks, GoesOn, Unexplored}
 
 abbrev pub name : Text
 name = codes "abtrun"
@@ -17,3 +17,7 @@ number_of_conclusion (Judged (verdict.Bad at)) = 1
 number_of_conclusion Flows = 0
 number_of_conclusion NotConfluent = 1
 number_of_conclusion Undefined = 1
+number_of_conclusion Finishes = 0
+number_of_conclusion Sticks = 1
+number_of_conclusion GoesOn = 4
+number_of_conclusion Unexplored = 8

@@ -51,6 +51,7 @@ MayMake (command.Run file asked journal) g n = LetsStreams (g.file file) asked n
 MayMake (command.SelfRun units) g n = n ≡ default_steps
 MayMake (command.Check workload journal) g n = ⊥
 MayMake (command.Flow file) g n = ⊥
+MayMake (command.Explore file end) g n = ⊥
 
 -- the words ask for more steps than the format of the file that they name allows
 pub record AsksBeyond (g : Given) : Type 0 where

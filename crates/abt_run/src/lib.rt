@@ -2,6 +2,7 @@
 #![tactic(auto)]
 
 mod checking;
+mod exploring;
 mod fetching;
 mod following;
 mod keeping;

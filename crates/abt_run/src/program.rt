@@ -16,6 +16,7 @@ ghost use Rattle.abt_shell.specs.Calls.{left};
 ghost use Rattle.abt_shell.specs.declared.status.Stop.TheVariants.{CannotRead, OutOfMemory};
 
 use crate::checking::prepare_check;
+use crate::exploring::prepare_explore;
 use crate::following::prepare_flow;
 use crate::keeping::Keep;
 use crate::prepared::Prepared;
@@ -93,6 +94,9 @@ fn prepare<R: Threads + Wait + Sync, F: Files, P: Work + Sync>(
             )
         }
         Ok(Command::Flow { file }) => prepare_flow(alloc, file.as_str(), files, work),
+        Ok(Command::Explore { file, end }) => {
+            prepare_explore(alloc, file.as_str(), end, files, work, orders)
+        }
         Err(WordFault::Bad) => Err(Stop::BadWords),
         Err(WordFault::Memory) => Err(Stop::OutOfMemory),
     }
@@ -101,15 +105,16 @@ fn prepare<R: Threads + Wait + Sync, F: Files, P: Work + Sync>(
 /// What the command of the program does. `run` reads the file and the workload in it, runs the workload, and writes the run's
 /// journal, if `--journal` asks for it, and its report; `self` runs the workload that it makes of a number, and writes the
 /// short report; `check` reads a workload and a journal, and writes whether that is a run of it with stamps, or otherwise its first line
-/// at which it is not one; `flow` writes what each unit of a workload puts out, if that does not depend on the schedule. The words are those
-/// after the program's name. User schedulers name the stored orders by number.
+/// at which it is not one; `flow` writes what each unit of a workload puts out, if that does not depend on the schedule; `explore` writes
+/// each way in which a workload can end, or one of them with a journal that leads to it. The words are those after the program's name. User schedulers name the stored orders by number.
 ///
 /// Each stream runs on a thread of its own, as far as threads can be started; `work` is called before each step and has the
 /// functions that units call, all outside every lock.
 ///
 /// Exit statuses: 0 finished, 1 stuck, 2 bad command line, also if it asks for more steps than the format of the file allows, 3 a file
 /// is refused, 4 a stream made all the steps that it may make, 5 cannot read, 6 cannot write, 7 out of memory; `check` ends with 0 if
-/// the journal is a run and with 1 if it is not, and `flow` with 0 if there is a flow and with 1 if there is none. The answer has the
+/// the journal is a run and with 1 if it is not, `flow` with 0 if there is a flow and with 1 if there is none, and `explore` with 0 if
+/// each end is finished, 1 if one is stuck, 4 if there is none, and 8 if the workload was not searched whole. The answer has the
 /// journal of the run that was made, if `keep` asks for it, and otherwise none.
 pub fn abtrun<R: Threads + Wait + Sync, F: Files, K: Sink, E: Sink, P: Work + Sync>(
     rt: &R,

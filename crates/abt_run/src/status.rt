@@ -23,6 +23,14 @@ pub enum Conclusion {
     NotConfluent,
     /// A workload is confluent and has no flow.
     Undefined,
+    /// Each end of a workload, or the one that was asked for, is finished.
+    Finishes,
+    /// Some end of a workload, or the one that was asked for, is stuck.
+    Sticks,
+    /// No run of a workload ends.
+    GoesOn,
+    /// A workload was not searched whole, or has no end of the number that was asked for.
+    Unexplored,
 }
 
 impl Conclusion {
@@ -35,6 +43,10 @@ impl Conclusion {
             Conclusion::Judged(Verdict::Run) | Conclusion::Flows => 0,
             Conclusion::Judged(Verdict::Bad { at: _ }) => 1,
             Conclusion::NotConfluent | Conclusion::Undefined => 1,
+            Conclusion::Finishes => 0,
+            Conclusion::Sticks => 1,
+            Conclusion::GoesOn => 4,
+            Conclusion::Unexplored => 8,
         }
     }
 }

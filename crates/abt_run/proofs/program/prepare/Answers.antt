@@ -84,3 +84,29 @@ returns-in-Ok-Check-clause-exceeds g c = λ file asked journal says known.
 pub returns-in-Ok-Flow-clause-exceeds : goal.returns-in-Ok-Flow-clause-exceeds
 returns-in-Ok-Flow-clause-exceeds g c = λ file asked journal says known.
     (let same = c.in-Ok-Flow.ensures.only (command.Run file asked journal) says ∙ c.in-Ok-Flow.field-0-is in absurd (cc))
+
+pub returns-in-Ok-Explore-clause-done : goal.returns-in-Ok-Explore-clause-done
+returns-in-Ok-Explore-clause-done g c =
+    c.prepare_explore.ensures.done c.args.keep (map string_bytes c.args.words.now)
+    (subst (λ f. Says (map string_bytes c.args.words.now) (command.Explore f c.in-Ok-Explore.end)) (sym c.as_str-in-Ok-Explore.ensures)
+    (subst (Says (map string_bytes c.args.words.now)) c.in-Ok-Explore.field-0-is c.in-Ok-Explore.ensures.said))
+
+pub returns-in-Ok-Explore-clause-stop : goal.returns-in-Ok-Explore-clause-stop
+returns-in-Ok-Explore-clause-stop g c =
+    c.prepare_explore.ensures.stop _
+    (subst (λ f. Says (map string_bytes c.args.words.now) (command.Explore f c.in-Ok-Explore.end)) (sym c.as_str-in-Ok-Explore.ensures)
+    (subst (Says (map string_bytes c.args.words.now)) c.in-Ok-Explore.field-0-is c.in-Ok-Explore.ensures.said))
+
+pub returns-in-Ok-Explore-clause-absent : goal.returns-in-Ok-Explore-clause-absent
+returns-in-Ok-Explore-clause-absent g c = λ d file says names gone.
+    inl (c.prepare_explore.ensures.absent (subst (g.F.Files.absent c.args.files.now) (one-file (map string_bytes c.args.words.now) d _ file _ says
+    (subst (λ f. Says (map string_bytes c.args.words.now) (command.Explore f c.in-Ok-Explore.end)) (sym c.as_str-in-Ok-Explore.ensures)
+    (subst (Says (map string_bytes c.args.words.now)) c.in-Ok-Explore.field-0-is c.in-Ok-Explore.ensures.said)) names refl) gone))
+
+pub returns-in-Ok-Explore-clause-missing : goal.returns-in-Ok-Explore-clause-missing
+returns-in-Ok-Explore-clause-missing g c = λ workload journal says gone.
+    (let same = c.in-Ok-Explore.ensures.only (command.Check workload journal) says ∙ c.in-Ok-Explore.field-0-is in absurd (cc))
+
+pub returns-in-Ok-Explore-clause-exceeds : goal.returns-in-Ok-Explore-clause-exceeds
+returns-in-Ok-Explore-clause-exceeds g c = λ file asked journal says known.
+    (let same = c.in-Ok-Explore.ensures.only (command.Run file asked journal) says ∙ c.in-Ok-Explore.field-0-is in absurd (cc))
