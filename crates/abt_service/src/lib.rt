@@ -1,0 +1,14 @@
+//! Laws of whom an object serves: each function's contract is a law, and its body is empty.
+#![tactic(auto)]
+
+mod barriers;
+mod mutexes;
+mod rwlocks;
+mod values;
+
+pub use barriers::{barrier_opens, barrier_waits};
+pub use mutexes::{
+    events_serve, handed_in_order, locks_wait_in_order, served_in_order, waiters_keep_order,
+};
+pub use rwlocks::readers_exclude_writers;
+pub use values::{future_gives_all, future_opens, set_gives_all, set_wakes_all};
