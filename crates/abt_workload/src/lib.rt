@@ -14,5 +14,5 @@ mod writing;
 
 pub use laws::{each_text_has_one_answer, valid_parts_have_a_text};
 pub use reading::{NotRead, read};
-pub use text::format_of;
-pub use writing::write;
+pub use text::{first_line, format_of, number};
+pub use writing::{push_operation, write};

@@ -25,7 +25,7 @@ fn line_end(text: &[u8]) -> usize
 }
 
 /// The first line, and what follows its line feed.
-pub(crate) fn first_line(text: &[u8]) -> (&[u8], &[u8])
+pub fn first_line(text: &[u8]) -> (&[u8], &[u8])
     requires { 0 < length text.now }
     ensures line { lines_of text.now ≡ result.0.now ∷ lines_of result.1.now }
     ensures shorter { length result.1.now < length text.now }
@@ -198,7 +198,7 @@ pub(crate) fn is_utf8(line: &[u8]) -> bool
 }
 
 /// The number that a word is, if it is one.
-pub(crate) fn number(word: &[u8]) -> Option<u64>
+pub fn number(word: &[u8]) -> Option<u64>
     ensures { result ≡ number_in word.now }
 {
     if word.is_empty() {

@@ -78,11 +78,18 @@ fn push_words(out: &mut Vec<u8>, slots: &[Slot], word: &[u8], numbers: &[u64]) -
     }
 }
 
-// Appends a line of this form, with this word where there is a choice, and these numbers.
+// Appends the words of a line of this form, with this word where there is a choice, and these numbers.
+fn push_form(out: &mut Vec<u8>, form: Form, word: &[u8], numbers: &[u64]) -> Result<(), Want>
+    ensures { OnOk result (out.new.items ≡ out.old.items ++ line_of (filled (own_slots form) word.now numbers.now)) }
+{
+    push_words(out, slots(form), word, numbers)
+}
+
+// Appends that line.
 fn push_line(out: &mut Vec<u8>, form: Form, word: &[u8], numbers: &[u64]) -> Result<(), Want>
     ensures { OnOk result (out.new.items ≡ out.old.items ++ ended (line_of (filled (own_slots form) word.now numbers.now))) }
 {
-    push_words(out, slots(form), word, numbers)?;
+    push_form(out, form, word, numbers)?;
     end_line(out)
 }
 
@@ -276,13 +283,16 @@ fn op_word(w: &Workload, op: Op) -> &[u8]
     }
 }
 
-// Appends the line of an operation.
-fn push_op(out: &mut Vec<u8>, w: &Workload, op: Op) -> Result<(), Want>
+/// Appends the words of an operation as its line in the workload's text has them, without a line feed.
+///
+/// # Errors
+/// Out of memory.
+pub fn push_operation(out: &mut Vec<u8>, w: &Workload, op: Op) -> Result<(), Want>
     requires { IsDeclared w.now op }
-    ensures { OnOk result (out.new.items ≡ out.old.items ++ ended (line_of (op_words w.now op))) }
+    ensures { OnOk result (out.new.items ≡ out.old.items ++ line_of (op_words w.now op)) }
 {
     let (first, second) = numbers_of(op);
-    push_line(out, Form::Operation(op), op_word(w, op), &[first, second])
+    push_form(out, Form::Operation(op), op_word(w, op), &[first, second])
 }
 
 // Appends the lines of operations.
@@ -291,7 +301,8 @@ fn push_ops(out: &mut Vec<u8>, w: &Workload, ops: &[Op]) -> Result<(), Want>
     ensures { OnOk result (out.new.items ≡ out.old.items ++ text_of (map (op_words w.now) ops.now)) }
 {
     for op in ops {
-        push_op(out, w, *op)?;
+        push_operation(out, w, *op)?;
+        end_line(out)?;
     }
     Ok(())
 }
