@@ -63,6 +63,74 @@ try_views() {
         '{"ph":"M","pid":0,"name":"process_name","args":{"name":"abtrun"}}' ']}')" ""
 }
 
+# A workload whose unit says words with signs that have a meaning in XML or in JSON, a letter of two bytes, and U+FFFF, which XML does not
+# have; a journal of it, with an event at a position that it does not have; and the trace, with the operations.
+write_named() {
+    printf '%s\n' 'abt 1' 'streams 1' 'pool 0 fifo mpmc' 'sched 0 prio 0' 'stream 0 main 0' 'units 1' 'unit 0 ult at 0' \
+        'say <&>"\' "say 'ß" $'say \xef\xbf\xbf' 'yield' end >"$room/named.abt"
+    printf '%s\n' '1 0 step 0 0 ok' '2 0 step 0 1 ok' '3 0 step 0 2 ok' '4 0 step 0 3 ok' '5 0 step 0 4 ok' '6 0 call 1 0 7' >"$room/named.journal"
+    cat >"$room/named.json" <<'JSON'
+{"traceEvents":[
+{"ph":"M","pid":0,"name":"process_name","args":{"name":"abtrun"}},
+{"ph":"M","pid":0,"tid":0,"name":"thread_name","args":{"name":"stream 0"}},
+{"ph":"X","pid":0,"tid":0,"ts":1.0,"dur":4.8,"name":"unit 0"},
+{"ph":"X","pid":0,"tid":0,"ts":6.0,"dur":0.8,"name":"unit 1"},
+{"ph":"X","pid":0,"tid":0,"ts":1.1,"dur":0.6,"name":"step","args":{"operation":"say <&>\"\\"}},
+{"ph":"X","pid":0,"tid":0,"ts":2.1,"dur":0.6,"name":"step","args":{"operation":"say 'ß"}},
+JSON
+    printf '%s\n' '{"ph":"X","pid":0,"tid":0,"ts":3.1,"dur":0.6,"name":"step","args":{"operation":"say '$'\xef\xbf\xbf''"}},' \
+        '{"ph":"X","pid":0,"tid":0,"ts":4.1,"dur":0.6,"name":"step","args":{"operation":"yield"}},' \
+        '{"ph":"X","pid":0,"tid":0,"ts":5.1,"dur":0.6,"name":"step"},' \
+        '{"ph":"X","pid":0,"tid":0,"ts":6.1,"dur":0.6,"name":"call"},' \
+        '{"ph":"i","pid":0,"tid":0,"ts":6.4,"s":"t","name":"call, unit 1, returned 7"}' ']}' >>"$room/named.json"
+    printf '%s\n' '1 0 step 0 0 ok  say &lt;&amp;&gt;&quot;\' '2 0 step 0 1 ok  say &#39;ß' $'3 0 step 0 2 ok  say \xef\xbf\xbd' \
+        '4 0 step 0 3 ok  yield' '5 0 step 0 4 ok' >"$room/named.lines"
+}
+
+# Views with the operations of a workload.
+try_named() {
+    local hi=$root/crates/abt_examples/data/hi.abt view
+    call "$program" svg "$journal" "$hi"
+    holds "the svg of hi names the operation" grep -qx '3 0 step 0 0 ok  say hi' "$room/out"
+    sed 's/  say hi$//' "$room/out" >"$room/text"
+    holds "and is otherwise the svg without a workload" cmp -s "$room/text" "$picture"
+    call "$program" svg - "$hi" <"$journal"
+    holds "a journal on standard input" grep -qx '3 0 step 0 0 ok  say hi' "$room/out"
+    call "$program" svg "$journal" - <"$hi"
+    holds "a workload on standard input" grep -qx '3 0 step 0 0 ok  say hi' "$room/out"
+    call "$program" trace "$room/named.journal" "$room/named.abt"
+    came "the trace with operations" 0 "@$room/named.json" ""
+    call "$program" svg "$room/named.journal" "$room/named.abt"
+    grep -E '^(<.*<title>)?[1-5] 0 step' "$room/out" | sed 's/.*<title>//' >"$room/text"
+    holds "the svg with operations" cmp -s "$room/text" "$room/named.lines"
+    ! has_python || {
+        holds "it is XML" is_xml "$room/out"
+        call "$program" trace "$room/named.journal" "$room/named.abt"
+        holds "the trace with operations is one" is_trace "$room/out"
+    }
+    call "$program" svg "$room/long.journal" "$hi"
+    holds "a journal that is too long is not drawn with operations" grep -q 'use abtview trace</text></svg>$' "$room/out"
+    for view in svg trace; do
+        call "$program" "$view" "$journal" "$journal"
+        came "$view: a journal is no workload" 3 "" "abtview: line 1: version"
+        sed 's/^say hi$/say/' "$hi" >"$room/text"
+        call "$program" "$view" "$room/absent" "$room/text"
+        came "$view: the workload is read first" 3 "" "abtview: line $(grep -nx say "$room/text" | cut -d: -f1): shape"
+        call "$program" "$view" "$hi" "$hi"
+        came "$view: a workload is no journal" 3 "" "abtview: line 1: journal"
+        call "$program" "$view" "$room/absent" "$hi"
+        came "$view: an absent journal" 5 "" "$cannot_read"
+        call "$program" "$view" "$journal" "$room/absent"
+        came "$view: an absent workload" 5 "" "$cannot_read"
+        call "$program" "$view" "$journal" "$room"
+        came "$view: a folder as the workload" 5 "" "$cannot_read"
+        call "$program" "$view" "$journal" ''
+        came "$view: an empty name of a workload" 2 "" "$words_are_bad"
+        call "$program" "$view" - - <"$journal"
+        came "$view: both are standard input" 2 "" "$words_are_bad"
+    done
+}
+
 # Whether python3 is there, which says whether a file is well-formed.
 has_python() {
     python3 -c 'import json, xml.dom.minidom' 2>/dev/null || {
@@ -108,7 +176,7 @@ PYTHON
 
 # What abtrun prints is drawn as in the documents, and the views are well-formed.
 try_runs() {
-    local run=${program%/*}/abtrun example
+    local run=${program%/*}/abtrun data=$root/crates/abt_examples/data example
     if [ ! -x "$run" ]; then
         miss abtrun "there is no $run"
         return
@@ -122,6 +190,11 @@ try_runs() {
         holds "the svg of $example is XML" is_xml "$room/out"
         call "$program" trace "$room/text"
         holds "the trace of $example is one" is_trace "$room/out"
+        call "$program" svg "$room/text" "$data/$example.abt"
+        holds "the svg of $example with operations is XML" is_xml "$room/out"
+        call "$program" trace "$room/text" "$data/$example.abt"
+        holds "the trace of $example with operations is one" is_trace "$room/out"
+        holds "and each step has one" [ "$(grep -c '"operation"' "$room/out")" = "$(grep -c '^[0-9]* [0-9]* step' "$room/text")" ]
     done
     "$run" run "$root/crates/abt_examples/data/stacked.abt" --journal >"$room/text"
     call "$program" svg "$room/text"
@@ -131,7 +204,7 @@ try_runs() {
 # Words that ask for no view, each with the words parted by blanks.
 try_bad_words() {
     local words
-    for words in '' svg trace 'svg f f' 'draw f' 'Svg f' 'svgx f' 'f svg' '--svg f' '-- svg f' 'svg -- f' '--help' '-h' '--version' help; do
+    for words in '' svg trace 'svg f f f' 'draw f' 'draw f f' 'Svg f' 'svgx f' 'f svg' '--svg f' '-- svg f' '--help' '-h' '--version' help; do
         call "$program" $words
         came "the words '$words'" 2 "" "$words_are_bad"
     done
@@ -139,6 +212,8 @@ try_bad_words() {
     came "an empty word" 2 "" "$words_are_bad"
     call "$program" "svg $journal"
     came "two words in one" 2 "" "$words_are_bad"
+    call "$program" svg -- f
+    came "a journal of the name '--'" 5 "" "$cannot_read"
     call "$program" svg $'f\xff'
     came "a word that is not UTF-8" 2 "" "$words_are_bad"
 }
@@ -213,7 +288,9 @@ fi
 mkfifo "$room/fifo"
 write_refused
 write_long 10000
+write_named
 try_views
+try_named
 try_runs
 try_bad_words
 try_faults

@@ -3,3 +3,4 @@ pub mod Complete
 pub mod Preparing
 pub mod Ranges
 pub mod Joining
+pub mod Requests

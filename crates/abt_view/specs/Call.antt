@@ -1,17 +1,20 @@
 -- What a call of the program reads and writes, and what each exit status says about that.
-use Rattle.std.specs.Prelude.{◌≡◌, ◌≢◌, ◌⊎◌, ℕ, List, Option, Some, IfSome, codes, ⊤}
+use Rattle.std.specs.Prelude.{◌≡◌, ◌≢◌, ◌⊎◌, ℕ, List, Option, Some, None, IfSome, codes, ⊤}
 use Rattle.std.specs.List.{All}
 use Rattle.abt_machine.specs.declared.events.Event.{Event}
+use Rattle.abt_machine.specs.declared.workload.Parts.{Parts}
+use Rattle.abt_machine.specs.Grammar.{Reads, Refuses}
 use Rattle.abt_machine.specs.Words.{Text}
 use Rattle.abt_report.specs.Journals.{IsEvent, IsNoJournalAt, IsTextOf}
+use Rattle.abt_run.specs.Prepared.{LacksSecond}
 use Rattle.abt_shell.specs.declared.status.Stop.{Stop}
+use Rattle.abt_shell.specs.declared.status.Stop.TheVariants.{CannotRead}
 use Rattle.abt_shell.specs.declared.status.Wrong.{Wrong}
 use Rattle.abt_shell.specs.declared.status.Wrong.TheVariants.{Workload, Journal, Lives}
 use Rattle.abt_shell.specs.Calls.{EndsBy, HasReadFault, Left, Program}
 use Rattle.abt_shell.specs.Fetched.{StopsFor}
 use Rattle.abt_shell.specs.Told.{Grew}
-use Rattle.abt_view.specs.declared.views.View.{View}
-use Rattle.abt_view.specs.Views.{Asks, view_text}
+use Rattle.abt_view.specs.Views.{Asks, Request, view_text}
 
 -- the words, the bytes of each file if they are observable, of which names it is observable that no file has them, and what the call left
 pub record Call : Type 1 where
@@ -22,47 +25,74 @@ pub record Call : Type 1 where
 
 -- the words do not ask for a view
 abbrev pub AsksNothing : List Text → Type 0
-AsksNothing words = (v : View) (file : Text) → Asks words v file → ⊥
+AsksNothing words = (q : Request) → Asks words q → ⊥
 
 -- the words ask for a view of a file
 pub record NamesFile (words : List Text) : Type 0 where
-  pub view : View
-  pub file : Text
-  pub asks : Asks words view file
+  pub request : Request
+  pub asks : Asks words request
 
--- the words ask for a view of a file, and `Is` holds of its bytes, if they are observable
-pub record NamesSuch (words : List Text) (file_of : Text → Option Text) (Is : Text → Type 0) : Type 0 where
-  pub view : View
-  pub file : Text
-  pub asks : Asks words view file
-  pub reads : IfSome (file_of file) Is
+-- Files.
 
--- the text is that view of the journal in a file: its numbers are within their types, and the bytes of the file, if they are observable,
--- are its text
-pub record IsFileView (v : View) (file : Text) (file_of : Text → Option Text) (text : Text) : Type 0 where
+-- the workload of the file that is named, if one is: the bytes of the file, if they are observable, are its text
+abbrev pub ReadsNames : Option Text → (Text → Option Text) → Option Parts → Type 0
+ReadsNames None file_of names = names ≡ None
+ReadsNames (Some file) file_of None = ⊥
+ReadsNames (Some file) file_of (Some W) = IfSome (file_of file) (λ bytes. Reads bytes W)
+
+-- and they are observable
+abbrev pub TellsNames : Option Text → (Text → Option Text) → Option Parts → Type 0
+TellsNames None file_of names = names ≡ None
+TellsNames (Some file) file_of None = ⊥
+TellsNames (Some file) file_of (Some W) = (bytes : Text) × (file_of file ≡ Some bytes) × Reads bytes W
+
+-- the words name a workload's file, and this holds of its bytes, if they are observable
+pub record NamesWorkload (words : List Text) (file_of : Text → Option Text) (Is : Text → Type 0) : Type 0 where
+  pub request : Request
+  pub file : Text
+  pub asks : Asks words request
+  pub names : request.workload ≡ Some file
+  pub is : IfSome (file_of file) Is
+
+-- the words name a workload's file, or none, and a journal's file, of whose bytes this holds, if they are observable
+pub record NamesJournal (words : List Text) (file_of : Text → Option Text) (Is : Text → Type 0) : Type 0 where
+  pub request : Request
+  pub names : Option Parts
+  pub asks : Asks words request
+  pub reads : ReadsNames request.workload file_of names
+  pub is : IfSome (file_of request.journal) Is
+
+-- the text is that view of the journal in a file, whose numbers are within their types, with the operations of the workload, if one is named
+pub record IsFileView (q : Request) (file_of : Text → Option Text) (text : Text) : Type 0 where
+  pub names : Option Parts
   pub journal : List Event
   pub events : All IsEvent journal
-  pub reads : IfSome (file_of file) (IsTextOf journal)
-  pub shows : text ≡ view_text v journal
+  pub workload : ReadsNames q.workload file_of names
+  pub reads : IfSome (file_of q.journal) (IsTextOf journal)
+  pub shows : text ≡ view_text q.view names journal
 
 -- the text is the view that the words ask for
 pub record IsViewOf (words : List Text) (file_of : Text → Option Text) (text : Text) : Type 0 where
-  pub view : View
-  pub file : Text
-  pub asks : Asks words view file
-  pub shown : IsFileView view file file_of text
+  pub request : Request
+  pub asks : Asks words request
+  pub shown : IsFileView request file_of text
 
 -- Why a call stops before its first write.
 
--- a line of the file that the words name has this fault
+-- a line of a file that the words name has this fault; the workload is read before the journal
 abbrev pub IsBadLine : List Text → (Text → Option Text) → ℕ → Wrong → Type 0
-IsBadLine words file_of line (Workload f) = ⊥
-IsBadLine words file_of line Journal = NamesSuch words file_of (λ bytes. IsNoJournalAt bytes line)
+IsBadLine words file_of line (Workload f) = NamesWorkload words file_of (λ bytes. Refuses bytes line f)
+IsBadLine words file_of line Journal = NamesJournal words file_of (λ bytes. IsNoJournalAt bytes line)
 IsBadLine words file_of line Lives = ⊥
 
 -- why the call stops, by the words, the files, and the count of read faults before and afterwards
 abbrev pub StopsView : List Text → (Text → Option Text) → ℕ × ℕ → Stop → Type 0
 StopsView words file_of = StopsFor (AsksNothing words) (NamesFile words) (IsBadLine words file_of)
+
+-- a journal cannot be read, or before it the workload that is named was refused or could not be read
+abbrev pub LacksJournal : Option Text → (Text → Option Text) → ℕ × ℕ → Stop → Type 0
+LacksJournal None file_of faults stop = stop ≡ CannotRead
+LacksJournal (Some workload) file_of faults stop = LacksSecond (file_of workload) faults stop
 
 -- What each status says.
 
@@ -75,19 +105,29 @@ program c = record {
   Stops = StopsView c.words c.file c.left.read_faults;
 }
 
--- if the words ask for the view of a file whose bytes are a journal's text, and no fault of reading or writing comes, it is written
+-- if the words ask for the view of a file whose bytes are a journal's text, the workload is known if they name one, and no fault of reading
+-- or writing comes, it is written
 abbrev pub IsComplete : ℕ → Call → Type 0
-IsComplete n c = (v : View) (file bytes : Text) (J : List Event) → Asks c.words v file → c.file file ≡ Some bytes → IsTextOf J bytes
-    → (Grew c.left.read_faults → ⊥) → (Grew c.left.out_faults → ⊥) → (n ≡ 0) ⊎ (n ≡ 7)
+IsComplete n c = (q : Request) (names : Option Parts) (bytes : Text) (J : List Event) → Asks c.words q → TellsNames q.workload c.file names
+    → c.file q.journal ≡ Some bytes → IsTextOf J bytes → (Grew c.left.read_faults → ⊥) → (Grew c.left.out_faults → ⊥) → (n ≡ 0) ⊎ (n ≡ 7)
 
--- if they name a file whose bytes are the text of no journal, and no fault of reading comes, the status is 3
+-- if they name a workload's file whose bytes are no workload's text, and no fault of reading comes, the status is 3
+abbrev pub RefusesWorkloads : ℕ → Call → Type 0
+RefusesWorkloads n c = (q : Request) (file bytes : Text) → Asks c.words q → q.workload ≡ Some file → c.file file ≡ Some bytes
+    → ((W : Parts) → Reads bytes W → ⊥) → (Grew c.left.read_faults → ⊥) → (n ≡ 3) ⊎ (n ≡ 7)
+
+-- and so it is if they name a file whose bytes are the text of no journal, and the workload is known if they name one
 abbrev pub RefusesTexts : ℕ → Call → Type 0
-RefusesTexts n c = (v : View) (file bytes : Text) → Asks c.words v file → c.file file ≡ Some bytes → ((J : List Event) → IsTextOf J bytes → ⊥)
-    → (Grew c.left.read_faults → ⊥) → (n ≡ 3) ⊎ (n ≡ 7)
+RefusesTexts n c = (q : Request) (names : Option Parts) (bytes : Text) → Asks c.words q → TellsNames q.workload c.file names
+    → c.file q.journal ≡ Some bytes → ((J : List Event) → IsTextOf J bytes → ⊥) → (Grew c.left.read_faults → ⊥) → (n ≡ 3) ⊎ (n ≡ 7)
 
--- if no file has the name of the journal, which is observable, it cannot be read
+-- if no file has the name of the workload, which is observable, it cannot be read
+abbrev pub MissesWorkloads : ℕ → Call → Type 0
+MissesWorkloads n c = (q : Request) (file : Text) → Asks c.words q → q.workload ≡ Some file → c.absent file → (n ≡ 5) ⊎ (n ≡ 7)
+
+-- nor can the journal, if no file has its name, which is observable, and the workload is known if the words name one
 abbrev pub MissesFiles : ℕ → Call → Type 0
-MissesFiles n c = (v : View) (file : Text) → Asks c.words v file → c.absent file → (n ≡ 5) ⊎ (n ≡ 7)
+MissesFiles n c = (q : Request) (names : Option Parts) → Asks c.words q → TellsNames q.workload c.file names → c.absent q.journal → (n ≡ 5) ⊎ (n ≡ 7)
 
 -- if the words ask for no view, they are refused
 abbrev pub RefusesWords : ℕ → Call → Type 0
@@ -97,8 +137,10 @@ RefusesWords n c = AsksNothing c.words → (n ≡ 2) ⊎ (n ≡ 7)
 pub record IsAnswered (n : ℕ) (c : Call) : Type 0 where
   pub cause : EndsBy (program c) c.left n
   pub complete : IsComplete n c
+  pub workloads : RefusesWorkloads n c
   pub texts : RefusesTexts n c
   pub words : RefusesWords n c
+  pub missing : MissesWorkloads n c
   pub absent : MissesFiles n c
   pub reads : (Grew c.left.read_faults → ⊥) → n ≢ 5
   pub faulty : HasReadFault c.left → (n ≡ 5) ⊎ (n ≡ 7)

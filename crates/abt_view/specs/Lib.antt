@@ -2,6 +2,7 @@ pub mod Arrows
 pub mod Call
 pub mod Frames
 pub mod Kinds
+pub mod Named
 pub mod Picture
 pub mod Stretches
 pub mod Trace

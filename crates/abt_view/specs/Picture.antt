@@ -2,8 +2,8 @@
 use Rattle.std.specs.Prelude.{ℕ, ◌+◌, ◌-◌, ◌*◌, ◌/◌, ◌%◌, ◌&&◌, nat_le, Bool, if◌then◌else◌, List, [], ◌++◌, codes, decimal, flat_map, length, max, min, Option, Some, None}
 use Rattle.std.specs.List.{range_with_len}
 use Rattle.abt_machine.specs.declared.events.Event.{Event}
+use Rattle.abt_machine.specs.declared.workload.Parts.{Parts}
 use Rattle.abt_machine.specs.Outcomes.{steps_in}
-use Rattle.abt_machine.specs.Texts.{journal_text}
 use Rattle.abt_machine.specs.Words.{Text}
 use Rattle.abt_view.specs.declared.arrows.Arrow.{Arrow}
 use Rattle.abt_view.specs.declared.arrows.Spot.{Spot}
@@ -13,24 +13,26 @@ use Rattle.abt_view.specs.declared.stretches.Stretch.{Stretch}
 use Rattle.abt_view.specs.Arrows.{arrows_of}
 use Rattle.abt_view.specs.Frames.{all_frames}
 use Rattle.abt_view.specs.Kinds.{kind_word, greatest_stamp, refused_in}
+use Rattle.abt_view.specs.Named.{named_line}
 use Rattle.abt_view.specs.Stretches.{all_stretches, streams_in}
 
 -- a number between two texts
 abbrev pub around : Text → ℕ → Text → Text
 around before n after = before ++ (decimal n ++ after)
 
--- The bar of a stretch, with its unit's number, its colour by the number's last digit, and the lines of its events.
+-- The bar of a stretch, with its unit's number, its colour by the number's last digit, and the lines of its events, each with the
+-- operation that it names, if there is a workload that has it.
 abbrev pub bar_place : Stretch → Text
 bar_place b = around (codes "<g class='u") (b.unit % 10) (codes "' transform='translate(") ++ (around [] b.since (codes "0 ") ++ around [] (48 * b.stream) (codes ")'>"))
 
 abbrev pub bar_shape : Stretch → Text
 bar_shape b = around (codes "<rect width='") (b.until - b.since) (codes "8' height='20' rx='2'/>") ++ around (codes "<text x='2' y='14'>") b.unit (codes "</text>")
 
-abbrev pub bar_title : Stretch → Text
-bar_title b = codes "<title>" ++ (journal_text b.events ++ codes "</title></g>\n")
+abbrev pub bar_title : Option Parts → Stretch → Text
+bar_title names b = codes "<title>" ++ (flat_map (named_line names) b.events ++ codes "</title></g>\n")
 
-abbrev pub bar_text : Stretch → Text
-bar_text b = bar_place b ++ (bar_shape b ++ bar_title b)
+abbrev pub bar_text : Option Parts → Stretch → Text
+bar_text names b = bar_place b ++ (bar_shape b ++ bar_title names b)
 
 -- by how many pixels a frame extends beyond the bars and marks within it: a deeper frame extends less
 abbrev pub margin_of : Frame → ℕ
@@ -101,9 +103,9 @@ abbrev pub axis_text : List Event → Text
 axis_text J = flat_map tick_text (range_with_len 1 (greatest_stamp J / 10)) ++ (flat_map lane_text (range_with_len 0 (streams_in J)) ++ legend_text (streams_in J))
 
 -- the picture
-abbrev pub picture_text : List Event → Text
-picture_text J =
-    head_text J ++ (axis_text J ++ (flat_map frame_text (all_frames J) ++ (flat_map bar_text (all_stretches J) ++ (flat_map mark_text J ++ (flat_map lines_text (arrows_of J) ++ codes "</svg>\n")))))
+abbrev pub picture_text : Option Parts → List Event → Text
+picture_text names J =
+    head_text J ++ (axis_text J ++ (flat_map frame_text (all_frames J) ++ (flat_map (bar_text names) (all_stretches J) ++ (flat_map mark_text J ++ (flat_map lines_text (arrows_of J) ++ codes "</svg>\n")))))
 
 -- a journal is drawn if it has at most 20,000 events and no stamp above 20,000
 abbrev pub is_small : List Event → Bool
@@ -114,5 +116,5 @@ abbrev pub too_large : Text
 too_large = codes "<svg xmlns='http://www.w3.org/2000/svg' width='720' height='40'><text x='10' y='25'>a picture has at most 20,000 events and no stamp above 20,000: use abtview trace</text></svg>\n"
 
 -- the svg: the picture, or a line that says why there is none
-abbrev pub svg_text : List Event → Text
-svg_text J = if is_small J then picture_text J else too_large
+abbrev pub svg_text : Option Parts → List Event → Text
+svg_text names J = if is_small J then picture_text names J else too_large

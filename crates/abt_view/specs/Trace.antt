@@ -6,12 +6,14 @@ use Rattle.abt_machine.specs.declared.events.Code.TheVariants as code
 use Rattle.abt_machine.specs.declared.events.Event.{Event}
 use Rattle.abt_machine.specs.declared.events.What.{What}
 use Rattle.abt_machine.specs.declared.events.What.TheVariants as what
+use Rattle.abt_machine.specs.declared.workload.Parts.{Parts}
 use Rattle.abt_machine.specs.Words.{Text}
 use Rattle.abt_view.specs.declared.arrows.Arrow.{Arrow}
 use Rattle.abt_view.specs.declared.arrows.Spot.{Spot}
 use Rattle.abt_view.specs.declared.stretches.Stretch.{Stretch}
 use Rattle.abt_view.specs.Arrows.{arrows_of, spot_of}
 use Rattle.abt_view.specs.Kinds.{kind_word}
+use Rattle.abt_view.specs.Named.{args_text, operation_of}
 use Rattle.abt_view.specs.Picture.{around}
 use Rattle.abt_view.specs.Stretches.{all_stretches, streams_in}
 
@@ -29,9 +31,11 @@ slice_text b =
 abbrev pub item_text : Text → Spot → Text → Text
 item_text phase at fraction = codes ",\n{\"ph\":\"" ++ (phase ++ (around (codes "\",\"pid\":0,\"tid\":") at.stream (codes ",\"ts\":") ++ around [] at.stamp fraction))
 
--- the slice of an event, within that of its stretch
-abbrev pub moment_text : Event → Text
-moment_text e = item_text (codes "X") (spot_of e) (codes ".1") ++ (codes ",\"dur\":0.6,\"name\":\"" ++ (kind_word e.what ++ codes "\"}"))
+-- the slice of an event, within that of its stretch; the operation that the event names is its argument, if there is a workload that has it
+abbrev pub moment_text : Option Parts → Event → Text
+moment_text names e =
+    item_text (codes "X") (spot_of e) (codes ".1")
+    ++ (codes ",\"dur\":0.6,\"name\":\"" ++ (kind_word e.what ++ (codes "\"" ++ (args_text (operation_of names e.what) ++ codes "}"))))
 
 -- the instant of an event
 abbrev pub instant_text : Event → ℕ → Text
@@ -64,14 +68,14 @@ more_text e (what.End u c) = instant_text e u.0
 more_text e (what.Enter u) = enter_text e u.0
 more_text e (what.Leave u) = leave_text e
 
-abbrev pub event_text : Event → Text
-event_text e = moment_text e ++ more_text e e.what
+abbrev pub event_text : Option Parts → Event → Text
+event_text names e = moment_text names e ++ more_text e e.what
 
--- a point of an arrow, in the slice of an event; its identifier is the stamp of the put, followed by the stream in two digits
+-- a point of an arrow, in the slice of an event; its identifier is a string of the stamp of the put, followed by the stream in two digits
 abbrev pub point_text : Text → Arrow → Spot → Text
 point_text phase a at =
     item_text phase at (codes ".4")
-    ++ (around (codes ",\"bp\":\"e\",\"cat\":\"pool\",\"name\":\"unit ") a.unit (codes "\",\"id\":") ++ (around [] a.put.stamp [] ++ (around [] (a.put.stream / 10) [] ++ around [] (a.put.stream % 10) (codes "}"))))
+    ++ (around (codes ",\"bp\":\"e\",\"cat\":\"pool\",\"name\":\"unit ") a.unit (codes "\",\"id\":\"") ++ (around [] a.put.stamp [] ++ (around [] (a.put.stream / 10) [] ++ around [] (a.put.stream % 10) (codes "\"}"))))
 
 -- the points of an arrow: the event that sent the unit, if there is one, the put, and the event that takes it, if there is one; an arrow
 -- whose only point is its put is left out
@@ -85,6 +89,6 @@ abbrev pub points_text : Arrow → Text
 points_text a = arrow_text a a.sent a.taken
 
 -- the trace
-abbrev pub trace_text : List Event → Text
-trace_text J =
-    codes "{\"traceEvents\":[\n{\"ph\":\"M\",\"pid\":0,\"name\":\"process_name\",\"args\":{\"name\":\"abtrun\"}}" ++ (flat_map track_text (range_with_len 0 (streams_in J)) ++ (flat_map slice_text (all_stretches J) ++ (flat_map event_text J ++ (flat_map points_text (arrows_of J) ++ codes "\n]}\n"))))
+abbrev pub trace_text : Option Parts → List Event → Text
+trace_text names J =
+    codes "{\"traceEvents\":[\n{\"ph\":\"M\",\"pid\":0,\"name\":\"process_name\",\"args\":{\"name\":\"abtrun\"}}" ++ (flat_map track_text (range_with_len 0 (streams_in J)) ++ (flat_map slice_text (all_stretches J) ++ (flat_map (event_text names) J ++ (flat_map points_text (arrows_of J) ++ codes "\n]}\n"))))

@@ -5,6 +5,7 @@
 mod arrows;
 mod frames;
 mod kinds;
+mod named;
 mod pictures;
 mod program;
 mod stretches;

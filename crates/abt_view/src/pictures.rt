@@ -3,15 +3,17 @@
 ghost use Rattle.std.specs.Prelude.{◌≡◌, ◌*◌, ◌++◌, ◌<◌, ◌≤◌, IfOk, OnOk, flat_map};
 ghost use Rattle.std.specs.List.{range_with_len};
 ghost use Rattle.abt_view.specs.Kinds.{greatest_stamp};
+ghost use Rattle.abt_view.specs.Named.{named_line};
 ghost use Rattle.abt_view.specs.Picture.{axis_text, bar_place, bar_shape, bar_text, bar_title, counts_text, frame_place, frame_shape, frame_text, head_text, is_small, lane_text, legend_text, line_shape, lines_text, margin_of, mark_text, picture_text, point_text, sent_text, size_text, svg_text, taken_text, tick_text};
 
 use crate::arrows::{Arrow, Spot, all_arrows};
 use crate::frames::{Frame, all_frames};
 use crate::kinds::{count_refused, greatest_stamp, word};
+use crate::named::push_named_line;
 use crate::stretches::{Stretch, all_stretches, count_streams};
 use crate::texts::push_around;
-use abt_machine::{Event, Want};
-use abt_report::{count_steps, journal_text};
+use abt_machine::{Event, Journal, Want, Workload};
+use abt_report::count_steps;
 use std::alloc::Global;
 
 // Colours of the bars, the shapes of the marks, and a white ground.
@@ -100,24 +102,48 @@ fn push_shape(out: &mut Vec<u8>, bar: &Stretch) -> Result<(), Want>
     push_around(out, b"<text x='2' y='14'>", u64::from(bar.unit), b"</text>")
 }
 
-// Appends the title of the bar, which a browser shows while the pointer is on it.
-fn push_title(alloc: Global, out: &mut Vec<u8>, bar: &Stretch) -> Result<(), Want>
-    ensures { OnOk result (out.new.items ≡ out.old.items ++ bar_title bar.now) }
+// Appends the lines of events, each with the operation that it names, if there is a workload that has it.
+fn push_named_lines(
+    alloc: Global,
+    out: &mut Vec<u8>,
+    names: &Option<Workload>,
+    events: &Journal,
+) -> Result<(), Want>
+    ensures { OnOk result (out.new.items ≡ out.old.items ++ flat_map (named_line names.now) events.now) }
 {
-    let lines = journal_text(alloc, &bar.events)?;
+    for event in events.items() {
+        push_named_line(alloc, out, names, event)?;
+    }
+    Ok(())
+}
+
+// Appends the title of the bar, which a browser shows while the pointer is on it.
+fn push_title(
+    alloc: Global,
+    out: &mut Vec<u8>,
+    names: &Option<Workload>,
+    bar: &Stretch,
+) -> Result<(), Want>
+    ensures { OnOk result (out.new.items ≡ out.old.items ++ bar_title names.now bar.now) }
+{
     out.extend_from_slice(b"<title>")?;
-    out.extend_from_slice(&lines)?;
+    push_named_lines(alloc, out, names, &bar.events)?;
     out.extend_from_slice(b"</title></g>\n")?;
     Ok(())
 }
 
 // Appends the bar of a stretch.
-fn push_bar(alloc: Global, out: &mut Vec<u8>, bar: &Stretch) -> Result<(), Want>
-    ensures { OnOk result (out.new.items ≡ out.old.items ++ bar_text bar.now) }
+fn push_bar(
+    alloc: Global,
+    out: &mut Vec<u8>,
+    names: &Option<Workload>,
+    bar: &Stretch,
+) -> Result<(), Want>
+    ensures { OnOk result (out.new.items ≡ out.old.items ++ bar_text names.now bar.now) }
 {
     push_place(out, bar)?;
     push_shape(out, bar)?;
-    push_title(alloc, out, bar)
+    push_title(alloc, out, names, bar)
 }
 
 // By how many pixels a frame extends beyond what is within it.
@@ -349,11 +375,16 @@ fn push_frames(out: &mut Vec<u8>, frames: &[Frame]) -> Result<(), Want>
 }
 
 // Appends the bars of stretches.
-fn push_bars(alloc: Global, out: &mut Vec<u8>, bars: &[Stretch]) -> Result<(), Want>
-    ensures { OnOk result (out.new.items ≡ out.old.items ++ flat_map bar_text bars.now) }
+fn push_bars(
+    alloc: Global,
+    out: &mut Vec<u8>,
+    names: &Option<Workload>,
+    bars: &[Stretch],
+) -> Result<(), Want>
+    ensures { OnOk result (out.new.items ≡ out.old.items ++ flat_map (bar_text names.now) bars.now) }
 {
     for bar in bars {
-        push_bar(alloc, out, bar)?;
+        push_bar(alloc, out, names, bar)?;
     }
     Ok(())
 }
@@ -379,9 +410,9 @@ fn push_arrows(out: &mut Vec<u8>, arrows: &[Arrow]) -> Result<(), Want>
 }
 
 // The picture of a journal without a stamp above 20,000.
-fn picture(alloc: Global, journal: &[Event]) -> Result<Vec<u8>, Want>
+fn picture(alloc: Global, names: &Option<Workload>, journal: &[Event]) -> Result<Vec<u8>, Want>
     requires { greatest_stamp journal.now ≤ 20000 }
-    ensures { IfOk result (λ text. text.items ≡ picture_text journal.now) }
+    ensures { IfOk result (λ text. text.items ≡ picture_text names.now journal.now) }
 {
     let frames = all_frames(alloc, journal)?;
     let bars = all_stretches(alloc, journal)?;
@@ -390,7 +421,7 @@ fn picture(alloc: Global, journal: &[Event]) -> Result<Vec<u8>, Want>
     push_head(&mut out, journal)?;
     push_axis(&mut out, journal)?;
     push_frames(&mut out, &frames)?;
-    push_bars(alloc, &mut out, &bars)?;
+    push_bars(alloc, &mut out, names, &bars)?;
     push_marks(&mut out, journal)?;
     push_arrows(&mut out, &arrows)?;
     out.extend_from_slice(b"</svg>\n")?;
@@ -404,13 +435,13 @@ fn is_drawn(journal: &[Event]) -> bool
     journal.len() as u64 <= MOST_DRAWN && greatest_stamp(journal) <= MOST_DRAWN
 }
 
-/// The picture of a journal as an svg. If the journal has more than 20,000 events, or a stamp above 20,000, the svg is one line of text
-/// that says so.
-pub fn svg(alloc: Global, journal: &[Event]) -> Result<Vec<u8>, Want>
-    ensures { IfOk result (λ text. text.items ≡ svg_text journal.now) }
+/// The picture of a journal as an svg, with the operations that its events name if there is a workload. If the journal has more than
+/// 20,000 events, or a stamp above 20,000, the svg is one line of text that says so.
+pub fn svg(alloc: Global, names: &Option<Workload>, journal: &[Event]) -> Result<Vec<u8>, Want>
+    ensures { IfOk result (λ text. text.items ≡ svg_text names.now journal.now) }
 {
     if is_drawn(journal) {
-        return picture(alloc, journal);
+        return picture(alloc, names, journal);
     }
     Ok(Vec::from_slice(
         alloc,

@@ -1,14 +1,16 @@
 //! The top call.
 
-ghost use Rattle.std.specs.Prelude.{◌≢◌, ◌≤◌, IfErr, IfOk, IsErrOf, map, string_bytes};
+ghost use Rattle.std.specs.Prelude.{◌≡◌, ◌≢◌, ◌≤◌, IfErr, IfOk, IsErrAnd, IsErrOf, List, None, Some, map, string_bytes};
 ghost use Rattle.abt_machine.specs.Words.{Text};
+ghost use Rattle.abt_run.specs.Prepared.{LacksSecond};
 ghost use Rattle.abt_shell.specs.Calls.{left};
 ghost use Rattle.abt_shell.specs.Fetched.{HasNoJournal};
 ghost use Rattle.abt_shell.specs.declared.status.Stop.TheVariants.{CannotRead};
-ghost use Rattle.abt_view.specs.Call.{IsAnswered, IsFileView, IsViewOf, StopsView};
-ghost use Rattle.abt_view.specs.Views.{Asks};
+ghost use Rattle.abt_view.specs.Call.{IsAnswered, IsFileView, IsViewOf, LacksJournal, StopsView};
+ghost use Rattle.abt_view.specs.Views.{Asks, Request, request};
 
 use crate::views::{View, asked, view_text};
+use abt_run::fetch;
 use abt_shell::{Stop, fetch_journal, stop_by, write_out};
 use abt_source::{Files, Sink};
 use std::alloc::Global;
@@ -23,14 +25,36 @@ fn prepare_view<F: Files>(
     file: &str,
     files: &mut F,
 ) -> Result<Vec<u8>, Stop>
-    ensures done { IfOk result (λ text. IsFileView view file.now (λ name. F.file files.old name) text.items) }
+    ensures done { IfOk result (λ text. IsFileView (request view file.now None) (λ name. F.file files.old name) text.items) }
     ensures stop { IfErr result (HasNoJournal (F.file files.old file.now) (F.faults files.old, F.faults files.new)) }
     ensures absent { F.absent files.old file.now → IsErrOf result CannotRead }
     ensures faulty { F.faults files.new ≢ F.faults files.old → IsErrOf result CannotRead }
     ensures later { F.faults files.old ≤ F.faults files.new }
 {
     let journal = fetch_journal(alloc, file, files)?;
-    let text = view_text(alloc, view, journal.items())?;
+    let text = view_text(alloc, view, &None, journal.items())?;
+    Ok(text)
+}
+
+// The view of the journal in a file, with the operations of the workload in another one, which is read first.
+fn prepare_named<F: Files>(
+    alloc: Global,
+    view: View,
+    journal: &str,
+    workload: &str,
+    files: &mut F,
+) -> Result<Vec<u8>, Stop>
+    ensures done { IfOk result (λ text. IsFileView (request view journal.now (Some workload.now)) (λ name. F.file files.old name) text.items) }
+    ensures stop { (words : List Text) → Asks words (request view journal.now (Some workload.now))
+        → IfErr result (StopsView words (λ name. F.file files.old name) (F.faults files.old, F.faults files.new)) }
+    ensures absent { F.absent files.old workload.now → IsErrOf result CannotRead }
+    ensures missing { F.absent files.old journal.now → IsErrAnd result (LacksSecond (F.file files.old workload.now) (F.faults files.old, F.faults files.new)) }
+    ensures faulty { F.faults files.new ≢ F.faults files.old → IsErrOf result CannotRead }
+    ensures later { F.faults files.old ≤ F.faults files.new }
+{
+    let w = fetch(alloc, workload, files)?;
+    let journal = fetch_journal(alloc, journal, files)?;
+    let text = view_text(alloc, view, &Some(w), journal.items())?;
     Ok(text)
 }
 
@@ -38,20 +62,26 @@ fn prepare_view<F: Files>(
 fn prepare<F: Files>(alloc: Global, words: &[String], files: &mut F) -> Result<Vec<u8>, Stop>
     ensures done { IfOk result (λ text. IsViewOf (map string_bytes words.now) (λ name. F.file files.old name) text.items) }
     ensures stop { IfErr result (StopsView (map string_bytes words.now) (λ name. F.file files.old name) (F.faults files.old, F.faults files.new)) }
-    ensures absent { (view : View) (file : Text) → Asks (map string_bytes words.now) view file → F.absent files.old file → IsErrOf result CannotRead }
+    ensures missing { (q : Request) (file : Text) → Asks (map string_bytes words.now) q → q.workload ≡ Some file → F.absent files.old file → IsErrOf result CannotRead }
+    ensures absent { (q : Request) → Asks (map string_bytes words.now) q → F.absent files.old q.journal
+        → IsErrAnd result (LacksJournal q.workload (λ name. F.file files.old name) (F.faults files.old, F.faults files.new)) }
     ensures faulty { F.faults files.new ≢ F.faults files.old → IsErrOf result CannotRead }
     ensures later { F.faults files.old ≤ F.faults files.new }
 {
     match asked(words) {
-        Some((view, file)) => prepare_view(alloc, view, file, files),
+        Some((view, journal, None)) => prepare_view(alloc, view, journal, files),
+        Some((view, journal, Some(workload))) => {
+            prepare_named(alloc, view, journal, workload, files)
+        }
         None => Err(Stop::BadWords),
     }
 }
 
-/// Runs the program's command: reads the journal in a file, and writes its view.
+/// Runs the program's command: reads the workload in a file, if the words name one, and the journal in another, and writes the
+/// journal's view.
 ///
-/// Exit statuses: 0 the view is written, 2 bad command line, 3 the file is not a journal's text or is too long, 5 cannot read, 6
-/// cannot write, 7 out of memory.
+/// Exit statuses: 0 the view is written, 2 bad command line, 3 a file is not a workload's or a journal's text or is too long, 5 cannot
+/// read, 6 cannot write, 7 out of memory.
 pub fn abtview<F: Files, K: Sink, E: Sink>(
     alloc: Global,
     words: &[String],

@@ -6,9 +6,10 @@ ghost use Rattle.abt_view.specs.Trace.{arrow_text, call_text, enter_text, event_
 
 use crate::arrows::{Arrow, Spot, all_arrows, spot_at};
 use crate::kinds::word;
+use crate::named::push_args;
 use crate::stretches::{Stretch, all_stretches, count_streams};
 use crate::texts::push_around;
-use abt_machine::{Code, Event, Want, What};
+use abt_machine::{Code, Event, Want, What, Workload};
 use std::alloc::Global;
 
 // Appends the name of a stream's track.
@@ -76,13 +77,20 @@ fn push_item(out: &mut Vec<u8>, phase: &[u8], at: Spot, fraction: &[u8]) -> Resu
 }
 
 // Appends the slice of an event.
-fn push_moment(out: &mut Vec<u8>, event: &Event) -> Result<(), Want>
-    ensures { OnOk result (out.new.items ≡ out.old.items ++ moment_text event.now) }
+fn push_moment(
+    alloc: Global,
+    out: &mut Vec<u8>,
+    names: &Option<Workload>,
+    event: &Event,
+) -> Result<(), Want>
+    ensures { OnOk result (out.new.items ≡ out.old.items ++ moment_text names.now event.now) }
 {
     push_item(out, b"X", spot_at(event), b".1")?;
     out.extend_from_slice(b",\"dur\":0.6,\"name\":\"")?;
     out.extend_from_slice(word(event.what))?;
-    out.extend_from_slice(b"\"}")?;
+    out.extend_from_slice(b"\"")?;
+    push_args(alloc, out, names, event.what)?;
+    out.extend_from_slice(b"}")?;
     Ok(())
 }
 
@@ -155,19 +163,29 @@ fn push_more(out: &mut Vec<u8>, event: &Event, what: What) -> Result<(), Want>
 }
 
 // Appends all items of an event.
-fn push_event(out: &mut Vec<u8>, event: &Event) -> Result<(), Want>
-    ensures { OnOk result (out.new.items ≡ out.old.items ++ event_text event.now) }
+fn push_event(
+    alloc: Global,
+    out: &mut Vec<u8>,
+    names: &Option<Workload>,
+    event: &Event,
+) -> Result<(), Want>
+    ensures { OnOk result (out.new.items ≡ out.old.items ++ event_text names.now event.now) }
 {
-    push_moment(out, event)?;
+    push_moment(alloc, out, names, event)?;
     push_more(out, event, event.what)
 }
 
 // Appends the items of events.
-fn push_events(out: &mut Vec<u8>, journal: &[Event]) -> Result<(), Want>
-    ensures { OnOk result (out.new.items ≡ out.old.items ++ flat_map event_text journal.now) }
+fn push_events(
+    alloc: Global,
+    out: &mut Vec<u8>,
+    names: &Option<Workload>,
+    journal: &[Event],
+) -> Result<(), Want>
+    ensures { OnOk result (out.new.items ≡ out.old.items ++ flat_map (event_text names.now) journal.now) }
 {
     for event in journal {
-        push_event(out, event)?;
+        push_event(alloc, out, names, event)?;
     }
     Ok(())
 }
@@ -181,11 +199,11 @@ fn push_point(out: &mut Vec<u8>, phase: &[u8], arrow: &Arrow, at: Spot) -> Resul
         out,
         b",\"bp\":\"e\",\"cat\":\"pool\",\"name\":\"unit ",
         u64::from(arrow.unit),
-        b"\",\"id\":",
+        b"\",\"id\":\"",
     )?;
     push_around(out, b"", arrow.put.stamp, b"")?;
     push_around(out, b"", u64::from(arrow.put.stream / 10), b"")?;
-    push_around(out, b"", u64::from(arrow.put.stream % 10), b"}")
+    push_around(out, b"", u64::from(arrow.put.stream % 10), b"\"}")
 }
 
 // Appends the points of an arrow with these ends.
@@ -225,9 +243,9 @@ fn push_arrows(out: &mut Vec<u8>, arrows: &[Arrow]) -> Result<(), Want>
     Ok(())
 }
 
-/// The trace of a journal, as JSON in the trace event format.
-pub fn trace(alloc: Global, journal: &[Event]) -> Result<Vec<u8>, Want>
-    ensures { IfOk result (λ text. text.items ≡ trace_text journal.now) }
+/// The trace of a journal, as JSON in the trace event format, with the operations that its events name if there is a workload.
+pub fn trace(alloc: Global, names: &Option<Workload>, journal: &[Event]) -> Result<Vec<u8>, Want>
+    ensures { IfOk result (λ text. text.items ≡ trace_text names.now journal.now) }
 {
     let slices = all_stretches(alloc, journal)?;
     let arrows = all_arrows(alloc, journal)?;
@@ -237,7 +255,7 @@ pub fn trace(alloc: Global, journal: &[Event]) -> Result<Vec<u8>, Want>
     )?;
     push_tracks(&mut out, count_streams(journal))?;
     push_slices(&mut out, &slices)?;
-    push_events(&mut out, journal)?;
+    push_events(alloc, &mut out, names, journal)?;
     push_arrows(&mut out, &arrows)?;
     out.extend_from_slice(b"\n]}\n")?;
     Ok(out)

@@ -1,12 +1,12 @@
 //! The views of a journal, and the words that ask for them.
 
-ghost use Rattle.std.specs.Prelude.{◌≡◌, IfOk, MatchOption, map, string_bytes};
+ghost use Rattle.std.specs.Prelude.{◌≡◌, ◌≢◌, ◌↔◌, [], IfOk, IsTrue, MatchOption, codes, map, option_map, string_bytes};
 ghost use Rattle.abt_view.specs.Call.{AsksNothing};
-ghost use Rattle.abt_view.specs.Views.{Asks, IsNoView, view_text as text_of_view, view_word};
+ghost use Rattle.abt_view.specs.Views.{Asks, IsNoView, request, view_text as text_of_view, view_word};
 
 use crate::pictures::svg;
 use crate::traces::trace;
-use abt_machine::{Event, Want};
+use abt_machine::{Event, Want, Workload};
 use std::alloc::Global;
 
 /// What is shown of a journal: a picture, or a trace for a trace viewer.
@@ -27,24 +27,46 @@ fn view_of(word: &str) -> Option<View>
     }
 }
 
-/// The view that the words ask for, and the name of the file.
-pub fn asked(words: &[String]) -> Option<(View, &str)>
+// Whether a workload's file may be named beside a journal's: its name has a byte, and not both are `-`.
+fn may_name(journal: &str, workload: &str) -> bool
+    ensures { IsTrue result ↔ (workload.now ≢ []) × (journal.now ≡ codes "-" → workload.now ≡ codes "-" → ⊥) }
+{
+    if workload.is_empty() {
+        return false;
+    }
+    journal != "-" || workload != "-"
+}
+
+/// What the words ask for: a view, the name of the journal's file, and that of the workload's, if they name one.
+pub fn asked(words: &[String]) -> Option<(View, &str, Option<&str>)>
     ensures { MatchOption result
         (AsksNothing (map string_bytes words.now))
-        (λ asked. Asks (map string_bytes words.now) asked.0 asked.1.now) }
+        (λ asked. Asks (map string_bytes words.now) (request asked.0 asked.1.now (option_map (λ name. name.now) asked.2))) }
 {
     match words {
-        [word, file] => Some((view_of(word.as_str())?, file.as_str())),
+        [word, journal] => Some((view_of(word.as_str())?, journal.as_str(), None)),
+        [word, journal, workload] => {
+            let view = view_of(word.as_str())?;
+            if !may_name(journal.as_str(), workload.as_str()) {
+                return None;
+            }
+            Some((view, journal.as_str(), Some(workload.as_str())))
+        }
         _ => None,
     }
 }
 
-/// The text of a view.
-pub fn view_text(alloc: Global, view: View, journal: &[Event]) -> Result<Vec<u8>, Want>
-    ensures { IfOk result (λ text. text.items ≡ text_of_view view journal.now) }
+/// The text of a view, with the operations that the journal's events name if there is a workload.
+pub fn view_text(
+    alloc: Global,
+    view: View,
+    names: &Option<Workload>,
+    journal: &[Event],
+) -> Result<Vec<u8>, Want>
+    ensures { IfOk result (λ text. text.items ≡ text_of_view view names.now journal.now) }
 {
     match view {
-        View::Svg => svg(alloc, journal),
-        View::Trace => trace(alloc, journal),
+        View::Svg => svg(alloc, names, journal),
+        View::Trace => trace(alloc, names, journal),
     }
 }

@@ -49,16 +49,43 @@ const WOKEN: &str = "{\"traceEvents\":[
 {\"ph\":\"X\",\"pid\":0,\"tid\":0,\"ts\":1.1,\"dur\":0.6,\"name\":\"step\"},
 {\"ph\":\"X\",\"pid\":0,\"tid\":0,\"ts\":2.1,\"dur\":0.6,\"name\":\"put\"},
 {\"ph\":\"X\",\"pid\":0,\"tid\":1,\"ts\":3.1,\"dur\":0.6,\"name\":\"take\"},
-{\"ph\":\"s\",\"pid\":0,\"tid\":0,\"ts\":1.4,\"bp\":\"e\",\"cat\":\"pool\",\"name\":\"unit 8\",\"id\":200},
-{\"ph\":\"t\",\"pid\":0,\"tid\":0,\"ts\":2.4,\"bp\":\"e\",\"cat\":\"pool\",\"name\":\"unit 8\",\"id\":200},
-{\"ph\":\"f\",\"pid\":0,\"tid\":1,\"ts\":3.4,\"bp\":\"e\",\"cat\":\"pool\",\"name\":\"unit 8\",\"id\":200}
+{\"ph\":\"s\",\"pid\":0,\"tid\":0,\"ts\":1.4,\"bp\":\"e\",\"cat\":\"pool\",\"name\":\"unit 8\",\"id\":\"200\"},
+{\"ph\":\"t\",\"pid\":0,\"tid\":0,\"ts\":2.4,\"bp\":\"e\",\"cat\":\"pool\",\"name\":\"unit 8\",\"id\":\"200\"},
+{\"ph\":\"f\",\"pid\":0,\"tid\":1,\"ts\":3.4,\"bp\":\"e\",\"cat\":\"pool\",\"name\":\"unit 8\",\"id\":\"200\"}
+]}
+";
+
+// A unit says a word with signs that have a meaning in XML or in JSON, and calls a function.
+const WORKLOAD: &str = "abt 3
+streams 1
+pool 0 fifo mpmc
+sched 0 prio 0
+stream 0 main 0
+units 1
+unit 0 ult at 0
+say <\"\\&'>
+call 0
+end
+";
+
+const NAMED: &str = "{\"traceEvents\":[
+{\"ph\":\"M\",\"pid\":0,\"name\":\"process_name\",\"args\":{\"name\":\"abtrun\"}},
+{\"ph\":\"M\",\"pid\":0,\"tid\":0,\"name\":\"thread_name\",\"args\":{\"name\":\"stream 0\"}},
+{\"ph\":\"X\",\"pid\":0,\"tid\":0,\"ts\":1.0,\"dur\":3.8,\"name\":\"unit 0\"},
+{\"ph\":\"X\",\"pid\":0,\"tid\":0,\"ts\":5.0,\"dur\":0.8,\"name\":\"unit 1\"},
+{\"ph\":\"X\",\"pid\":0,\"tid\":0,\"ts\":1.1,\"dur\":0.6,\"name\":\"look\"},
+{\"ph\":\"X\",\"pid\":0,\"tid\":0,\"ts\":2.1,\"dur\":0.6,\"name\":\"step\",\"args\":{\"operation\":\"say <\\\"\\\\&'>\"}},
+{\"ph\":\"X\",\"pid\":0,\"tid\":0,\"ts\":3.1,\"dur\":0.6,\"name\":\"call\",\"args\":{\"operation\":\"call 0\"}},
+{\"ph\":\"i\",\"pid\":0,\"tid\":0,\"ts\":3.4,\"s\":\"t\",\"name\":\"call, unit 0, returned 7\"},
+{\"ph\":\"X\",\"pid\":0,\"tid\":0,\"ts\":4.1,\"dur\":0.6,\"name\":\"step\"},
+{\"ph\":\"X\",\"pid\":0,\"tid\":0,\"ts\":5.1,\"dur\":0.6,\"name\":\"step\"}
 ]}
 ";
 
 const LONG: &str =
     "<svg xmlns='http://www.w3.org/2000/svg' width='720' height='40'><text x='10' y='25'>a picture has at most 20,000 events and no stamp above 20,000: use abtview trace</text></svg>\n";
 
-// Words with a comma between each two, the text of the file `f`, the write of the output that fails, the status, the output and
+// Words with a comma between each two, the text of the file `f` (that of `w` is WORKLOAD), the write of the output that fails, the status, the output and
 // the message.
 type Row = (
     &'static str,
@@ -69,7 +96,7 @@ type Row = (
     &'static str,
 );
 
-static ROWS: [Row; 18] = [
+static ROWS: [Row; 27] = [
     ("trace,f", "", NEVER, 0, NOTHING, ""),
     (
         "trace,f",
@@ -105,9 +132,21 @@ static ROWS: [Row; 18] = [
         LONG,
         "",
     ),
+    // the operations of a workload: an event may name a position or a unit that it does not have
+    (
+        "trace,f,w",
+        "1 0 look 0\n2 0 step 0 0 ok\n3 0 call 0 1 7\n4 0 step 0 2 ok\n5 0 step 1 0 ok\n",
+        NEVER,
+        0,
+        NAMED,
+        "",
+    ),
+    ("svg,f,w", "20001 0 miss 0\n", NEVER, 0, LONG, ""),
     // words that say nothing
     ("svg", "", NEVER, 2, "", "abtview: bad command line\n"),
-    ("svg,f,f", "", NEVER, 2, "", "abtview: bad command line\n"),
+    ("svg,f,w,w", "", NEVER, 2, "", "abtview: bad command line\n"),
+    ("svg,f,", "", NEVER, 2, "", "abtview: bad command line\n"),
+    ("svg,-,-", "", NEVER, 2, "", "abtview: bad command line\n"),
     ("draw,f", "", NEVER, 2, "", "abtview: bad command line\n"),
     // texts that are no journal's
     ("svg,f", "\n", NEVER, 3, "", "abtview: line 1: journal\n"),
@@ -135,6 +174,24 @@ static ROWS: [Row; 18] = [
         "",
         "abtview: line 3: journal\n",
     ),
+    // a workload is read first
+    ("svg,w,f", "\n", NEVER, 3, "", "abtview: line 2: no-end\n"),
+    (
+        "trace,f,w",
+        "1 0 miss 0\n\n",
+        NEVER,
+        3,
+        "",
+        "abtview: line 2: journal\n",
+    ),
+    (
+        "trace,absent,f",
+        "abt 1\nstreams\n",
+        NEVER,
+        3,
+        "",
+        "abtview: line 2: shape\n",
+    ),
     // numbers that are too large for a journal
     (
         "svg,f",
@@ -154,6 +211,8 @@ static ROWS: [Row; 18] = [
     ),
     // a file that is absent, and a write that fails
     ("svg,absent", "", NEVER, 5, "", "abtview: cannot read\n"),
+    ("svg,absent,w", "", NEVER, 5, "", "abtview: cannot read\n"),
+    ("svg,f,absent", "\n", NEVER, 5, "", "abtview: cannot read\n"),
     (
         "trace,f",
         "",
@@ -170,13 +229,20 @@ const ROOM: usize = 10_000;
 // More writes than any call makes.
 const NEVER: u64 = 1_000_000;
 
-// The file `f` with these bytes.
-fn files_of(alloc: Global, bytes: &[u8]) -> Result<MemoryFiles, AllocError> {
-    let file = NamedBytes {
-        name: String::from_str(alloc, "f")?,
-        bytes: Vec::from_slice(alloc, bytes)?,
-    };
-    Ok(MemoryFiles::new(vec![in alloc; file]?, Vec::new(alloc)))
+// A file of this name with this text.
+fn file_of(alloc: Global, name: &str, text: &str) -> Result<NamedBytes, AllocError> {
+    Ok(NamedBytes {
+        name: String::from_str(alloc, name)?,
+        bytes: Vec::from_slice(alloc, text.as_bytes())?,
+    })
+}
+
+// The file `f` with this text, and the file `w` with the workload.
+fn files_of(alloc: Global, text: &str) -> Result<MemoryFiles, AllocError> {
+    let mut files = Vec::new(alloc);
+    files.push(file_of(alloc, "f", text)?)?;
+    files.push(file_of(alloc, "w", WORKLOAD)?)?;
+    Ok(MemoryFiles::new(files, Vec::new(alloc)))
 }
 
 // Whether a call with these words over the file leaves what the row says. No write takes more than 9 bytes.
@@ -199,7 +265,7 @@ fn leaves(
 // Whether a row's call leaves what the row says.
 fn is_left(alloc: Global, row: Row) -> Result<bool, Fail> {
     let words = list_of(alloc, row.0)?;
-    let mut files = files_of(alloc, row.1.as_bytes())?;
+    let mut files = files_of(alloc, row.1)?;
     leaves(alloc, &words, &mut files, row)
 }
 

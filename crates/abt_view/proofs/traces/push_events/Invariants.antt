@@ -3,4 +3,4 @@ use Rattle.abt_view.specs.Trace.{event_text}
 use Rattle.abt_view.proofs.traces.push_events.Given as goal
 
 abbrev pub invariant-loop-event : goal.invariant-loop-event
-invariant-loop-event l = l.out.items ≡ l.fn.out.items ++ flat_map event_text (take l.event-index l.journal)
+invariant-loop-event l = l.out.items ≡ l.fn.out.items ++ flat_map (event_text l.names) (take l.event-index l.journal)

@@ -1,0 +1,83 @@
+-- The operations that events name, as the text of their workload has them.
+use Rattle.std.specs.Prelude.{ℕ, ◌==◌, ◌&&◌, nat_le, Bool, if◌then◌else◌, [], ◌∷◌, ◌++◌, codes, flat_map, Option, Some, None, option_map}
+use Rattle.abt_machine.specs.declared.events.Event.{Event}
+use Rattle.abt_machine.specs.declared.events.What.{What}
+use Rattle.abt_machine.specs.declared.events.What.TheVariants as what
+use Rattle.abt_machine.specs.declared.operations.Op.{Op}
+use Rattle.abt_machine.specs.declared.workload.Parts.{Parts}
+use Rattle.abt_machine.specs.Canonical.{op_words}
+use Rattle.abt_machine.specs.Texts.{event_words}
+use Rattle.abt_machine.specs.Words.{Text, ended, line_of}
+use Rattle.abt_machine.specs.Workloads.{op_at}
+
+-- the operation that an event names, if the workload has it
+abbrev pub op_named : Parts → What → Option Op
+op_named W (what.Miss p) = None
+op_named W (what.Take p u) = None
+op_named W (what.Look u) = None
+op_named W (what.Step u k c) = op_at W u.0 k
+op_named W (what.Call u k n) = op_at W u.0 k
+op_named W (what.Put u p) = None
+op_named W (what.End u c) = None
+op_named W (what.Enter u) = None
+op_named W (what.Leave u) = None
+
+-- an operation as its line in the workload's text
+abbrev pub op_text : Parts → Op → Text
+op_text W o = line_of (op_words W o)
+
+-- that of an event, if there is a workload that has it
+abbrev pub operation_of : Option Parts → What → Option Text
+operation_of None what = None
+operation_of (Some W) what = option_map (op_text W) (op_named W what)
+
+-- In an svg.
+
+-- a byte of a text in an svg
+abbrev pub xml_byte : ℕ → Text
+xml_byte b =
+    if b == 38 then codes "&amp;"
+    else if b == 60 then codes "&lt;"
+    else if b == 62 then codes "&gt;"
+    else if b == 34 then codes "&quot;"
+    else if b == 39 then codes "&#39;"
+    else b ∷ []
+
+-- the bytes of U+FFFE or U+FFFF, which XML does not have
+abbrev pub is_no_character : ℕ → ℕ → ℕ → Bool
+is_no_character a b c = a == 239 && b == 191 && nat_le 190 c
+
+-- a byte after two others; U+FFFD, the replacement character, takes the place of what XML does not have
+abbrev pub xml_byte_after : ℕ → ℕ → ℕ → Text
+xml_byte_after a b c = if is_no_character a b c then 189 ∷ [] else xml_byte c
+
+-- a text after two bytes
+abbrev pub xml_after : ℕ → ℕ → Text → Text
+xml_after a b [] = []
+xml_after a b (c ∷ text) = xml_byte_after a b c ++ xml_after b c text
+
+abbrev pub xml_text : Text → Text
+xml_text text = xml_after 0 0 text
+
+-- the operation after two spaces
+abbrev pub after_line : Option Text → Text
+after_line None = []
+after_line (Some operation) = codes "  " ++ xml_text operation
+
+-- the line of an event, with its operation
+abbrev pub named_line : Option Parts → Event → Text
+named_line names e = ended (line_of (event_words e) ++ after_line (operation_of names e.what))
+
+-- In JSON.
+
+-- a byte of a string
+abbrev pub json_byte : ℕ → Text
+json_byte b = if b == 34 then codes "\\\"" else if b == 92 then codes "\\\\" else b ∷ []
+
+abbrev pub json_text : Text → Text
+json_text text = flat_map json_byte text
+
+-- the operation as an argument of an item
+abbrev pub args_text : Option Text → Text
+args_text None = []
+args_text (Some operation) = codes ",\"args\":{\"operation\":\"" ++ (json_text operation ++ codes "\"}")
