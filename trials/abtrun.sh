@@ -434,6 +434,128 @@ try_checks() {
     came "a flow of two files" 2 "" "abtrun: bad command line"
 }
 
+# streams_apart N THINGS..: the lines of a workload up to its units, one for each of N streams, which has a pool of its own, with objects.
+streams_apart() {
+    local n=$1 i
+    shift
+    echo abt 1
+    echo streams "$n"
+    for ((i = 0; i < n; i++)); do echo pool $i fifo mpmc; done
+    for ((i = 0; i < n; i++)); do echo sched $i prio $i; done
+    for ((i = 0; i < n; i++)); do echo stream $i main $i; done
+    for ((i = 1; i <= $#; i++)); do echo object $((i - 1)) "${!i}"; done
+    echo units "$n"
+}
+
+# unit U OPERATIONS..: the lines of unit U on stream U.
+unit() {
+    echo unit "$1" ult at "$1"
+    shift
+    printf '%s\n' "$@"
+}
+
+# has_ends TITLE STATUS END..: the workload on standard input has these ends, each an outcome and what the last unit's line says; and each
+# end's journal is a run with the end's report.
+has_ends() {
+    local title=$1 wanted=$2 count=0 number
+    shift 2
+    cat >"$room/ends.abt"
+    call "$program" explore "$room/ends.abt"
+    holds "$title: the status" [ "$status" = "$wanted" ]
+    awk '/^end / { outcome = $3 } /^unit / { line = $0; sub(/^unit [0-9]+ /, "", line) } /^tally / { print outcome ", " line }' "$room/out" | sort >"$room/ends"
+    printf '%s\n' "$@" | sort >"$room/wanted"
+    holds "$title: the ends" cmp -s "$room/ends" "$room/wanted"
+    cp "$room/out" "$room/all"
+    while [ "$count" -lt $# ]; do
+        count=$((count + 1))
+        call "$program" explore "$room/ends.abt" "$count"
+        grep '^[0-9]' "$room/out" >"$room/end.journal"
+        grep -v '^[0-9]' "$room/out" >"$room/end.report"
+        awk -v end="$count" '/^end / { on = $2 == end; next } on' "$room/all" >"$room/all.report"
+        holds "$title: the report of end $count" cmp -s "$room/end.report" "$room/all.report"
+        number=$(awk -v end="$count" '/^end / && $2 == end { print $5 }' "$room/all")
+        holds "$title: the events of end $count" [ "$(wc -l <"$room/end.journal")" = "$number" ]
+        call "$program" check "$room/ends.abt" "$room/end.journal"
+        came "$title: the journal of end $count" 0 "run" ""
+    done
+    call "$program" explore "$room/ends.abt" "$((count + 1))"
+    came "$title: an end that is not there" 8 "ends $count" ""
+}
+
+# Every way in which workloads end.
+try_ends() {
+    local file wanted turn
+    {
+        streams_apart 2 mutex mutex
+        unit 0 'lock 0' 'lock 1' 'unlock 1' 'unlock 0'
+        unit 1 'lock 0' 'lock 1' 'unlock 1' 'unlock 0' 'say out'
+        echo end
+    } | has_ends "two locks in one order" 0 'finished, done: out'
+    {
+        streams_apart 2 mutex mutex
+        unit 0 'lock 0' 'lock 1' 'unlock 1' 'unlock 0'
+        unit 1 'lock 1' 'lock 0' 'unlock 0' 'unlock 1' 'say out'
+        echo end
+    } | has_ends "two locks in two orders" 1 'finished, done: out' 'stuck, object 0:'
+    {
+        streams_apart 4 mutex
+        for turn in 0 1 2; do unit $turn 'lock 0' 'load 0' 'unlock 0' 'add 1' 'lock 0' 'store 0' 'unlock 0'; done
+        unit 3 'join 0' 'join 1' 'join 2' 'lock 0' 'load 0' 'print'
+        echo end
+    } | has_ends "lost updates" 0 'finished, done: 1' 'finished, done: 2' 'finished, done: 3'
+    {
+        streams_apart 2 mutex 'cond 0'
+        unit 0 'lock 0' 'signal 1' 'unlock 0'
+        unit 1 'lock 0' 'cwait 1' 'say woken'
+        echo end
+    } | has_ends "a signal before it is awaited" 1 'finished, done: woken' 'stuck, object 1:'
+    {
+        streams_apart 3 'barrier 4'
+        for turn in 0 1 2; do unit $turn 'bwait 0'; done
+        echo end
+    } | has_ends "a barrier with a party too few" 1 'stuck, object 0:'
+    {
+        streams_apart 2 rwlock
+        unit 0 'wrlock 0' 'set 5' 'rwstore 0' 'rwunlock 0'
+        unit 1 'rdlock 0' 'rwload 0' 'print' 'rwunlock 0'
+        echo end
+    } | has_ends "a reader and a writer" 0 'finished, done: 0' 'finished, done: 5'
+    {
+        streams_apart 2 eventual
+        unit 0 'call 1' 'eset 0'
+        unit 1 'set 100' 'call 1' 'print' 'ewait 0' 'print'
+        echo end
+    } | sed '1s/1/3/' | has_ends "calls" 0 'finished, done: 25 0'
+    for file in "$data"/*.abt; do
+        call "$program" explore "$file"
+        wanted=0
+        case ${file##*/} in
+        stuck.abt) wanted=1 ;;
+        budget.abt) wanted=4 ;;
+        collatz.abt | factors.abt | norm.abt | pipeline.abt | primes.abt | reduce.abt | rotate.abt | stealing.abt | streams.abt | tree.abt) wanted=8 ;;
+        esac
+        holds "the ends of ${file##*/}" [ "$status" = "$wanted" ]
+        [ "$wanted" -lt 4 ] || continue
+        # Each run ends as one of them.
+        grep -v '^states\|^end \|^tally' "$room/out" >"$room/all"
+        for turn in 1 2 3 4 5; do
+            "$program" run "$file" | grep '^unit ' >"$room/run.rows"
+            [ ! -s "$room/run.rows" ] || holds "a run of ${file##*/}" awk 'NR == FNR { wanted[NR] = $0; n = NR; next } /^unit / { if ($0 == wanted[++k]) same++; next } { if (k == n && same == n) found = 1; k = same = 0 } END { exit !found }' "$room/run.rows" "$room/all"
+        done
+    done
+    call "$program" explore "$data/rotate.abt"
+    came "an order that rotates" 8 "scheduler 0 changes its order" ""
+    # Two units revive each other and put out a word each time: there is no last state.
+    printf '%s\n' 'abt 1' 'streams 1' 'pool 0 fifo mpmc' 'sched 0 prio 0' 'stream 0 main 0' 'units 2' 'unit 0 ult at 0' 'say a' 'revive 1 0' \
+        'unit 1 ult at 0' 'say b' 'revive 0 0' end >"$room/ends.abt"
+    call "$program" explore "$room/ends.abt"
+    came "states without end" 8 "too many states" ""
+    call "$program" explore "$room/absent"
+    came "ends of a file that is absent" 5 "" "$cannot_read"
+    call "$program" explore "$hi" 0
+    came "end 0" 2 "" "$words_are_bad"
+}
+
 if ! make_meddler; then
     miss meddle "trials/meddle.c cannot be compiled"
     return
@@ -458,5 +580,6 @@ signalled HUP 129 "$hi" "$program" run -
 signalled KILL 137 "$hi" "$program" run -
 signalled INT 130 "$hi" "$program" run -
 try_checks
+try_ends
 refuse_memory
 rm "$room/fifo"

@@ -1,7 +1,8 @@
-# Trials of docs/TUTORIAL.md: each command prints what the page says. `trials/programs` reads this file.
+# Trials of docs/TUTORIAL.md and docs/EXPLORE.md: each command prints what the page says. `trials/programs` reads this file.
 
-# Writes the page as a script: blocks of `sh` that make files, and a call of `says` for each command of a block of `console`.
-tutorial() {
+# walk PAGE: writes the page as a script: blocks of `sh` that make files, and a call of `says` for each command of a block of
+# `console`.
+walk() {
     awk '
         function end_command() { if (command != "") printf "SAID\nsays \"$said\" <<\"COMMAND\"\n%s\nCOMMAND\n", command; command = "" }
         /^```sh$/ { kind = "sh"; text = ""; next }
@@ -10,7 +11,7 @@ tutorial() {
         kind == "sh" { text = text $0 "\n" }
         kind == "console" && /^\$ / { end_command(); command = substr($0, 3); print "IFS= read -r -d \"\" said <<\"SAID\""; next }
         kind == "console" { print }
-    ' "$root/docs/TUTORIAL.md"
+    ' "$root/docs/$1"
 }
 
 # says TEXT: the command on standard input prints the text.
@@ -21,11 +22,14 @@ says() {
     printf '%s' "$1" | cmp -s - "$room/out" && [ ! -s "$room/err" ] && pass || miss "$line" "it prints something else than the page says"
 }
 
-tutorial >"$room/tutorial"
-holds "the page has commands" [ "$(grep -c '^says ' "$room/tutorial")" -gt 10 ]
-if ! { mkdir "$room/hour" && cd "$room/hour"; }; then
-    miss folder "no folder can be made"
-    return
-fi
-. "$room/tutorial"
-cd "$root" || return
+for page in TUTORIAL.md EXPLORE.md; do
+    subject=$page
+    walk "$page" >"$room/walk"
+    holds "the page has commands" [ "$(grep -c '^says ' "$room/walk")" -gt 5 ]
+    if ! { mkdir "$room/$page.folder" && cd "$room/$page.folder"; }; then
+        miss folder "no folder can be made"
+        continue
+    fi
+    . "$room/walk"
+    cd "$root" || return
+done
