@@ -56,19 +56,22 @@ journal-push : (J : List Event) (e : Event) → journal_text (J ++ e ∷ []) ≡
 journal-push J e =
     rw (map_push event_words J e, flat_map-append (λ (words : List Text). ended (line_of words)) (map event_words J) (event_words e ∷ []), append-nil (ended (event_line e))) refl
 
+-- a line and its line feed begin a text
+pub line-begins : (line same more rest : Text) → same ≡ line → line ++ 10 ∷ more ≡ rest → ended same ++ more ≡ rest
+line-begins line same more rest is at = ended-front same more ∙ (ap (λ text. text ++ 10 ∷ more) is ∙ at)
+
 -- one line more is an event's
-pub one-line-more : (bytes rest line more : Text) (l : ℕ) (J : List Event) (e : Event) → StandsAfter bytes l J rest → line ++ 10 ∷ more ≡ rest →
-    IsEvent e → event_line e ≡ line → StandsAfter bytes (l + 1) (J ++ e ∷ []) more
-one-line-more bytes rest line more l J e stands at is same = record {
+pub one-line-more : (bytes rest more : Text) (l : ℕ) (J : List Event) (e : Event) → StandsAfter bytes l J rest → ended (event_line e) ++ more ≡ rest →
+    IsEvent e → StandsAfter bytes (l + 1) (J ++ e ∷ []) more
+one-line-more bytes rest more l J e stands at is = record {
   text =
-      let front : journal_text (J ++ e ∷ []) ++ more ≡ journal_text J ++ (event_line e ++ 10 ∷ more) =
-      ap (λ text. text ++ more) (journal-push J e) ∙ (append_assoc (journal_text J) (ended (event_line e)) more ∙ ap (λ text. journal_text J ++ text) (ended-front (event_line e) more)) in
-      let here : event_line e ++ 10 ∷ more ≡ rest = ap (λ text. text ++ 10 ∷ more) same ∙ at in
-      front ∙ (ap (λ text. journal_text J ++ text) here ∙ stands.text);
+      let front : journal_text (J ++ e ∷ []) ++ more ≡ journal_text J ++ (ended (event_line e) ++ more) =
+      ap (λ text. text ++ more) (journal-push J e) ∙ append_assoc (journal_text J) (ended (event_line e)) more in
+      front ∙ (ap (λ text. journal_text J ++ text) at ∙ stands.text);
   events = All-push IsEvent J e stands.events is;
   line = omega (arith, length-append J (e ∷ []), stands.line);
 }
 
 -- so many bytes fewer are left
-pub fewer-left : (line more rest : Text) → line ++ 10 ∷ more ≡ rest → length more + 1 ≤ length rest
-fewer-left line more rest at = omega (arith, length-append line (10 ∷ more), ap length at)
+pub fewer-left : (line more rest : Text) → ended line ++ more ≡ rest → length more + 1 ≤ length rest
+fewer-left line more rest at = omega (arith, length-append line (10 ∷ []), length-append (ended line) more, ap length at)

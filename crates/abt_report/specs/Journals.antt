@@ -1,5 +1,6 @@
 -- Texts that are read as journals.
-use Rattle.std.specs.Prelude.{ℕ, zero, suc, ◌≡◌, ◌≢◌, ◌<◌, ◌≤◌, ◌^◌, Bool, true, false, List, [], ◌∷◌, ◌++◌, length, All, MatchOption, Option, ⊤}
+use Rattle.std.specs.Prelude.{ℕ, zero, suc, ◌≡◌, ◌≢◌, ◌<◌, ◌≤◌, ◌^◌, Bool, true, false, List, [], ◌∷◌, ◌++◌, length, All, MatchOption, Option, Some, None, ⊤}
+use Rattle.std.specs.Borrow.{Bor}
 use Rattle.abt_machine.specs.declared.events.Event.{Event}
 use Rattle.abt_machine.specs.declared.events.What.{What}
 use Rattle.abt_machine.specs.declared.events.What.TheVariants as what
@@ -79,6 +80,11 @@ ReadsAs {A} Is text_from text found = MatchOption found ((x : A) → Is x → te
 abbrev pub ReadsMore : Text → List Event → Bool → List Event → Type 0
 ReadsMore line old true new = (e : Event) × IsEvent e × (event_line e ≡ line) × (new ≡ old ++ e ∷ [])
 ReadsMore line old false new = (e : Event) → IsEvent e → event_line e ≡ line → ⊥
+
+-- the text after an event's line, which begins this text, and the events with one more; nothing if no event's line begins it
+abbrev pub ReadsLine : Text → List Event → Option (Bor Text) → List Event → Type 0
+ReadsLine text old (Some more) new = (e : Event) × IsEvent e × (ended (event_line e) ++ more.now ≡ text) × (new ≡ old ++ e ∷ [])
+ReadsLine text old None new = BeginsNoEvent text
 
 -- why bytes were not read
 abbrev pub IsCause : Text → TextFault → Type 0

@@ -1,7 +1,9 @@
 //! The texts of runs: journals, both ways, and reports.
 #![tactic(auto)]
 
+mod backward;
 mod cuts;
+mod glances;
 mod guesses;
 mod journals;
 mod outputs;

@@ -2,11 +2,13 @@
 
 ghost use Rattle.std.specs.Prelude.{◌≡◌, ◌≢◌, ◌<◌, ◌-◌, ◌^◌, [], ◌∷◌, ◌++◌, All, IfErr, IfOk, MatchBool, OnOk, length};
 ghost use Rattle.abt_machine.specs.Texts.{journal_text};
-ghost use Rattle.abt_report.specs.Journals.{IsCause, IsEvent, ReadsMore, event_line};
+ghost use Rattle.abt_report.specs.Journals.{IsCause, IsEvent, ReadsLine, ReadsMore, event_line};
 
+use crate::backward::{BLOCK_LENGTH, Block};
 use crate::cuts::cut;
+use crate::glances::glance;
 use crate::guesses::{event, split};
-use crate::journals::push_event;
+use crate::journals::line_before;
 use crate::text_fault::TextFault;
 use abt_machine::{Event, Journal, Want, What};
 use std::alloc::Global;
@@ -14,13 +16,12 @@ use std::alloc::Global;
 /// The most bytes of a file that programs read as a journal's text.
 pub const JOURNAL_LIMIT: usize = 1_073_741_824;
 
-// Whether the line is that of the event, whose line is written into the text in order to compare them.
-fn is_line_of(line: &[u8], event: &Event, text: &mut Vec<u8>) -> Result<bool, Want>
-    ensures { IfOk result (λ is. MatchBool is (event_line event.now ≡ line.now) (event_line event.now ≢ line.now)) }
+// Whether the line is that of the event, whose line is written into the block in order to compare them.
+fn is_line_of(line: &[u8], event: &Event, block: &mut Block) -> bool
+    ensures { MatchBool result (event_line event.now ≡ line.now) (event_line event.now ≢ line.now) }
 {
-    text.clear();
-    push_event(text, event)?;
-    Ok(text.as_slice() == line)
+    let start = line_before(block, BLOCK_LENGTH, event);
+    &block[start..] == line
 }
 
 // Appends an event. What happened has a name, since the prover makes no plan for the push of a type that is not named here.
@@ -32,11 +33,11 @@ fn keep(events: &mut Vec<Event>, event: &Event) -> Result<(), Want>
     Ok(())
 }
 
-// Appends the event whose line this is, if there is one. Words and text are buffers, used again for each line.
+// Appends the event whose line this is, if there is one. The words are a buffer, used again for each line.
 fn read_event<'a>(
     line: &'a [u8],
     words: &mut Vec<&'a [u8]>,
-    text: &mut Vec<u8>,
+    block: &mut Block,
     events: &mut Vec<Event>,
 ) -> Result<bool, Want>
     ensures { IfOk result (λ read. ReadsMore line.entry.now events.old.items read events.new.items) }
@@ -45,11 +46,47 @@ fn read_event<'a>(
     let Some(event) = event(words) else {
         return Ok(false);
     };
-    if !is_line_of(line, &event, text)? {
+    if !is_line_of(line, &event, block) {
         return Ok(false);
     }
     keep(events, &event)?;
     Ok(true)
+}
+
+// The same of the line that begins a text, word by word, and what follows it.
+#[inline(never)]
+fn read_words<'a>(
+    text: &'a [u8],
+    words: &mut Vec<&'a [u8]>,
+    block: &mut Block,
+    events: &mut Vec<Event>,
+) -> Result<Option<&'a [u8]>, Want>
+    ensures { IfOk result (λ more. ReadsLine text.entry.now events.old.items more events.new.items) }
+{
+    let Some((line, more)) = cut(text, b'\n') else {
+        return Ok(None);
+    };
+    if !read_event(line, words, block, events)? {
+        return Ok(None);
+    }
+    Ok(Some(more))
+}
+
+// Appends the event whose line begins the text, and returns what follows the line; nothing if the text begins with no event's line. A
+// glance finds almost every event, and whether there is none is seen word by word.
+fn read_line<'a>(
+    text: &'a [u8],
+    words: &mut Vec<&'a [u8]>,
+    block: &mut Block,
+    events: &mut Vec<Event>,
+) -> Result<Option<&'a [u8]>, Want>
+    ensures { IfOk result (λ more. ReadsLine text.entry.now events.old.items more events.new.items) }
+{
+    if let Some((event, more)) = glance(text) {
+        keep(events, &event)?;
+        return Ok(Some(more));
+    }
+    read_words(text, words, block, events)
 }
 
 /// The journal whose text this is.
@@ -65,16 +102,13 @@ pub fn read_journal(alloc: Global, bytes: &[u8]) -> Result<Journal, TextFault>
 {
     let mut events = Vec::new(alloc);
     let mut words = Vec::new(alloc);
-    let mut text = Vec::new(alloc);
+    let mut block = [0; BLOCK_LENGTH];
     let mut rest = bytes;
     let mut line = 1;
     while !rest.is_empty() {
-        let Some((found, more)) = cut(rest, b'\n') else {
+        let Some(more) = read_line(rest, &mut words, &mut block, &mut events)? else {
             return Err(TextFault::Bad { line });
         };
-        if !read_event(found, &mut words, &mut text, &mut events)? {
-            return Err(TextFault::Bad { line });
-        }
         rest = more;
         line += 1;
     }

@@ -21,9 +21,9 @@ returns-in_default c = λ e is at.
     let found = c.event.ensures e is (same-words c.args.line.now (map (λ (word : Bor Text). word.now) c.deref.result.now) e (rw c.deref.ensures.value c.in_ok-split.ensures) at) in
     cc
 
-pub returns-then-not-branch : goal.returns-then-not-branch
-returns-then-not-branch c = λ e is at.
+pub returns-then-not-is_line_of : goal.returns-then-not-is_line_of
+returns-then-not-is_line_of c = λ e is at.
     let found = c.event.ensures e is (same-words c.args.line.now (map (λ (word : Bor Text). word.now) c.deref.result.now) e (rw c.deref.ensures.value c.in_ok-split.ensures) at) in
     let one : c.in-Some.event ≡ e = cc in
-    let other = rw c.if-not-branch.true at c.in_ok-is_line_of.ensures in
+    let other = rw c.if-not-is_line_of.true at c.is_line_of.ensures in
     other (ap event_line one ∙ at)
