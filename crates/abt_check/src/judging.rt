@@ -1,15 +1,16 @@
 //! Whether a journal is a run of a workload.
 
-ghost use Rattle.std.specs.Prelude.{◌≡◌, ◌≤◌, IfOk, List, length};
+ghost use Rattle.std.specs.Prelude.{◌≤◌, IfOk, List, length};
 ghost use Rattle.abt_check.specs.Verdicts.{IsJudged, OneVerdict};
 ghost use Rattle.abt_model.specs.Stored.{stored_with};
 ghost use Rattle.abt_machine.specs.Stored.{CallsStored, Stored};
 ghost use Rattle.abt_machine.specs.declared.workload.Parts.{Parts};
-ghost use Rattle.abt_order.specs.Stored.{shapes_of, stored_of};
+ghost use Rattle.abt_order.specs.Stored.{stored_of};
 
 use crate::judge::Judge;
 use crate::verdict::Verdict;
 use abt_machine::{Journal, OrderShape, Want, Workload};
+use abt_model::shapes;
 use abt_order::StoredOrder;
 use abt_work::Work;
 use std::alloc::Global;
@@ -37,17 +38,6 @@ pub fn check<P: Work>(
 pub fn one_verdict()
     ensures { (W : Parts) (Z : Stored) → OneVerdict W Z }
 {}
-
-// The shapes of stored orders.
-fn shapes(alloc: Global, orders: &[StoredOrder]) -> Result<Vec<OrderShape>, Want>
-    ensures { IfOk result (λ shapes. shapes.items ≡ shapes_of orders.now) }
-{
-    let mut shapes = Vec::with_capacity(alloc, orders.len())?;
-    for order in orders {
-        shapes.push(order.shape())?;
-    }
-    Ok(shapes)
-}
 
 // Judges a journal. `z` has the shapes of the stored orders.
 fn judge<P: Work>(

@@ -1,5 +1,5 @@
 -- The ends that a search notes, and what it knows when it is over.
-use Rattle.std.proofs.Common.{◌≡◌, ◌∙◌, ℕ, suc, ◌<◌, ◌⊎◌, List, [], ◌∷◌, ◌++◌, Option, None, Some, IfNone, IfSome, MatchOption, IsTrue, Contains, All, ap, arith, inl, inr, length, refl, subst, sym}
+use Rattle.std.proofs.Common.{◌≡◌, ◌∙◌, ℕ, suc, ◌<◌, ◌≤◌, ◌+◌, ◌⊎◌, List, [], ◌∷◌, ◌++◌, Option, None, Some, IfNone, IfSome, MatchOption, IsTrue, Contains, All, ap, arith, inl, inr, length, refl, subst, sym}
 use Rattle.std.proofs.lemmas.List.Elements.{Contains-push, Contains-push_cases}
 use Rattle.abt_machine.specs.declared.events.Event.{Event}
 use Rattle.abt_machine.specs.declared.events.Outcome.{Outcome}
@@ -13,6 +13,7 @@ use Rattle.abt_machine.specs.Sound.{Sound}
 use Rattle.abt_machine.specs.State.{State}
 use Rattle.abt_machine.specs.Valid.{IsValid}
 use Rattle.abt_report.specs.Pictures.{SaysWordsOf, units_in_rows}
+use Rattle.abt_model.specs.Keys.{model_key}
 use Rattle.abt_model.specs.Models.{IsAfter, ModelValue, StandsFor}
 use Rattle.abt_model.proofs.Saying.{runs-say-own-words}
 use Rattle.abt_explore.specs.declared.exploration.End.{End}
@@ -20,18 +21,20 @@ use Rattle.abt_explore.specs.declared.exploration.Exploration.{Exploration}
 use Rattle.abt_explore.specs.declared.exploration.Exploration.TheVariants as exploration
 use Rattle.abt_explore.specs.declared.search.Found.{Found}
 use Rattle.abt_explore.specs.declared.search.Search.{Search}
-use Rattle.abt_explore.specs.Explored.{AreAllEnds, AreDistinctEnds, AreEnds, IsEndOf, IsExplored, IsRealEnd}
+use Rattle.abt_explore.specs.declared.seen.Seen.{Seen}
+use Rattle.abt_explore.specs.Explored.{AreAllEnds, AreDistinctEnds, AreEnds, HasTooMany, IsEndOf, IsExplored, IsRealEnd, key_bytes, most_bytes}
 use Rattle.abt_explore.specs.Laws.{AreClosed, IsReachedBy}
 use Rattle.abt_explore.specs.Orders.{KeepsOrder}
 use Rattle.abt_explore.specs.Same.{ListsSame}
-use Rattle.abt_explore.specs.Searches.{Grows, HasNoted, HasOutcome, IsEndIn, IsExpanded, IsFinished, IsMet, IsSearching, ListsEnd, Notes, NotesIfQuiet, SeesStart, Waits, journal_to, sees}
+use Rattle.abt_explore.specs.Searches.{AreFound, Grows, HasNoted, HasOutcome, IsEndIn, IsExpanded, IsFinished, IsMet, IsSearching, ListsEnd, Notes, NotesIfQuiet, SeesStart, Waits, journal_to, sees}
+use Rattle.abt_explore.specs.Seen.{has}
 use Rattle.abt_explore.specs.Unnumbered.{unnumbered_state}
 use Rattle.abt_explore.proofs.Counting.{counted-stamped}
 use Rattle.abt_explore.proofs.Growing.{push-cases}
 use Rattle.abt_explore.proofs.Reaching.{reached-after}
 use Rattle.abt_explore.proofs.SameSound.{sound-forgotten}
 use Rattle.abt_explore.proofs.SameValues.{quiet-same}
-use Rattle.abt_explore.proofs.Searching.{contains-at, contains-more, contains-none, contains-rest, expanded-grown, grows-same}
+use Rattle.abt_explore.proofs.Searching.{contains-at, contains-more, contains-none, contains-rest, expanded-grown, expanded-kept, grows-same}
 use Rattle.abt_explore.proofs.Seeing.{seen-along}
 use Rattle.abt_laws.proofs.RunParts.{last_state-sound}
 use Rattle.abt_laws.proofs.SoundRuns.{runs-are-sound}
@@ -45,6 +48,15 @@ ends-as W n J (outcome.Budget s) quiet has = absurd has
 -- an end of the last state without numbers is one of the journal
 end-of : (W : Parts) (J : List Event) (end : End) → Quiet W (last_state W J) → All (SaysWordsOf W) end.picture → IsEndIn W (unnumbered_state (last_state W J)) end → IsEndOf W J end
 end-of W J end quiet words is = record { outcome = λ n. ends-as W n J end.outcome quiet is.outcome; picture = record { shown = is.shown; words = words } }
+
+-- What was found stays so if no journal and no model is more.
+found-same : (W : Parts) (Z : Stored) (old new : Search) (models : List ModelValue) → new.seen ≡ old.seen → new.paths ≡ old.paths → AreFound W Z old models → AreFound W Z new models
+found-same W Z old new models seen paths found = record {
+  apart = found.apart;
+  many = found.many ∙ ap (λ (js : List (List Event)). length js) (sym paths);
+  seen = λ m here. subst (λ (s : Seen). IsTrue (has s (model_key m))) (sym seen) (found.seen m here);
+  bytes = subst (λ (s : Seen). s.bytes ≤ key_bytes models) (sym seen) found.bytes;
+}
 
 -- One end more.
 
@@ -78,6 +90,7 @@ module _ (W : Parts) (Z : Stored) (valid : IsValid W) (stored : OrdersStored W Z
       seen = λ m h. subst (λ s. IsTrue (sees (record new { seen = s }) m)) (sym notes.seen) h;
       met = λ V Y f h. subst (λ (js : List (List Event)). IsMet V Y js f) (sym notes.paths) h;
       ends = ends-grown notes.noted.0 notes.noted.2;
+      count = ap (λ (js : List (List Event)). length js + length old.waiting.items) notes.paths ∙ ap (λ q. length old.paths + length q.items) (sym notes.waiting);
     }
 
     -- the end is noted
@@ -137,6 +150,7 @@ module _ (W : Parts) (Z : Stored) (valid : IsValid W) (stored : OrdersStored W Z
         waiting = λ f here. subst (λ (js : List (List Event)). IsMet W Z js f) (sym notes.paths) (searching.waiting f (subst (λ q. Contains q.items f) notes.waiting here));
         real = all-real notes.noted.0 notes.noted.2 (notes.noted.1 Z bare bare-sound met.reached.shows);
         distinct = all-distinct notes.noted.0 notes.noted.2;
+        found = (searching.found.0, found-same W Z old new searching.found.0 notes.seen notes.paths searching.found.1);
       }
 
   -- what is known once the end was noted if there is one
@@ -173,18 +187,15 @@ module _ (W : Parts) (Z : Stored) (valid : IsValid W) (stored : OrdersStored W Z
     waiting = searching.waiting;
     real = searching.real;
     distinct = searching.distinct;
+    found = searching.found;
   }
 
   module _ (old : Search) (found : Found) (rest : List Found) (taken : Search) (before : old.waiting.items ≡ found ∷ rest) (waiting : taken.waiting.items ≡ rest)
       (paths : taken.paths ≡ old.paths) (seen : taken.seen ≡ old.seen)
       (ends : taken.ends ≡ old.ends) where
-    -- nothing is lost when a model is taken
-    pub grows-taken : Grows old taken
-    grows-taken = record {
-      seen = λ m h. subst (λ s. IsTrue (sees (record taken { seen = s }) m)) (sym seen) h;
-      met = λ V Y f h. subst (λ (js : List (List Event)). IsMet V Y js f) (sym paths) h;
-      ends = λ e h. subst (λ v. Contains v.items e) (sym ends) h;
-    }
+    -- what is expanded stays so when a model is taken
+    expanded-taken : (m : ModelValue) → IsExpanded W Z old m → IsExpanded W Z taken m
+    expanded-taken m expanded = expanded-kept W Z old taken m (λ x h. subst (λ s. IsTrue (sees (record taken { seen = s }) x)) (sym seen) h) (λ e h. subst (λ v. Contains v.items e) (sym ends) h) expanded
 
     module _ (searching : IsSearching W Z None old) where
       -- what was seen before
@@ -196,7 +207,7 @@ module _ (W : Parts) (Z : Stored) (valid : IsValid W) (stored : OrdersStored W Z
             | inr later ↦ inl (waits.0, subst (λ (fs : List Found). Contains fs waits.0) (sym waiting) later, waits.2)
           ]
       taken-seen m (inr (inl in_hand)) = cc
-      taken-seen m (inr (inr expanded)) = inr (inr (expanded-grown W Z old taken m grows-taken expanded))
+      taken-seen m (inr (inr expanded)) = inr (inr (expanded-taken m expanded))
 
       -- what waits waited before
       later-waits : (f : Found) → Contains rest f → Contains old.waiting.items f
@@ -209,6 +220,7 @@ module _ (W : Parts) (Z : Stored) (valid : IsValid W) (stored : OrdersStored W Z
         waiting = λ f here. subst (λ (js : List (List Event)). IsMet W Z js f) (sym paths) (searching.waiting f (later-waits f (subst (λ (fs : List Found). Contains fs f) waiting here)));
         real = λ e h. searching.real e (subst (λ v. Contains v.items e) ends h);
         distinct = subst (λ v. AreDistinctEnds v.items) (sym ends) searching.distinct;
+        found = (searching.found.0, found-same W Z old taken searching.found.0 seen paths searching.found.1);
       }
 
       -- it was met
@@ -260,8 +272,20 @@ listed-grown W Z old new model grows listed S sound stands quiet = let end = lis
 
 -- what was found is right
 pub finished-explored : (W : Parts) (Z : Stored) → IsValid W → OrdersStored W Z.orders → KeepsOrder W Z.orders → (over : Search) → IsSearching W Z None over →
-    SeesStart W over → (e : Exploration) → IsFinished over e → IsExplored W Z e
-finished-explored W Z valid stored keeps over searching begins (exploration.Whole states ends) is = subst (λ v. AreEnds W Z v.items) (sym is.1)
-    (are-ends W Z valid stored keeps over searching is.0 begins)
-finished-explored W Z valid stored keeps over searching begins exploration.TooMany is = tt
-finished-explored W Z valid stored keeps over searching begins (exploration.AnyWord f) is = absurd is
+    SeesStart W over → (most : ℕ) → length over.paths ≡ most + length over.waiting.items → (e : Exploration) → IsFinished over most e → IsExplored W Z most e
+finished-explored W Z valid stored keeps over searching begins most count (exploration.Whole states ends) is = (
+  subst (λ v. AreEnds W Z v.items) (sym is.1) (are-ends W Z valid stored keeps over searching is.0 begins),
+  omega (arith, is.2),
+)
+finished-explored W Z valid stored keeps over searching begins most count exploration.TooMany is =
+    let found = searching.found in
+    let many : length found.0 ≡ length over.paths = found.1.many in
+    (found.0, found.1.apart, inl (omega (arith, count, is, many)))
+finished-explored W Z valid stored keeps over searching begins most count (exploration.AnyWord f) is = absurd is
+
+-- the keys have too many bytes
+pub bytes-explored : (W : Parts) (Z : Stored) (hand : Option ModelValue) (search : Search) (most : ℕ) → IsSearching W Z hand search → most_bytes < search.seen.bytes → HasTooMany W Z most
+bytes-explored W Z hand search most searching above =
+    let found = searching.found in
+    let few : search.seen.bytes ≤ key_bytes found.0 = found.1.bytes in
+    (found.0, found.1.apart, inr (omega (arith, above, few)))

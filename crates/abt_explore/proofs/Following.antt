@@ -1,5 +1,5 @@
 -- What a search finds from one model.
-use Rattle.std.proofs.Common.{◌≡◌, ◌∙◌, ℕ, ◌<◌, List, [], ◌∷◌, Option, None, Some, Result, Ok, Err, OnOk, IfSome, Contains, false, true, arith, inl, inr, refl, subst, sym}
+use Rattle.std.proofs.Common.{◌≡◌, ◌∙◌, ℕ, zero, suc, ◌<◌, ◌≤◌, List, [], ◌∷◌, Option, None, Some, Result, Ok, Err, OnOk, IfSome, IsTrue, Contains, false, true, ap, arith, inl, inr, length, refl, subst, sym}
 use Rattle.std.specs.List.{slice_get}
 use Rattle.abt_machine.specs.declared.events.Event.{Event}
 use Rattle.abt_machine.specs.declared.events.What.{What}
@@ -13,24 +13,30 @@ use Rattle.abt_machine.specs.State.{State}
 use Rattle.abt_machine.specs.Valid.{IsValid}
 use Rattle.abt_model.specs.Hints.{HasHints, IsMade}
 use Rattle.abt_model.specs.Models.{IsAfter, IsDone, ModelValue, StandsFor}
-use Rattle.abt_model.specs.Keys.{model_key}
+use Rattle.abt_model.specs.Keys.{model_key, unnumbered_model}
 use Rattle.abt_model.proofs.Telling.{keys-tell-models}
 use Rattle.abt_explore.specs.declared.exploration.End.{End}
 use Rattle.abt_explore.specs.declared.search.Found.{Found}
 use Rattle.abt_explore.specs.declared.search.Search.{Search}
 use Rattle.abt_explore.specs.declared.seen.Seen.{Seen}
+use Rattle.abt_explore.specs.Laws.{IsReachedBy}
 use Rattle.abt_explore.specs.Orders.{KeepsOrder}
-use Rattle.abt_explore.specs.Searches.{Grows, IsMet, IsSearching, Meets, SeesAfter, SeesAfterEach, SeesNext, SeesStart, Waits, journal_to}
+use Rattle.abt_explore.specs.Searches.{Grows, IsMet, IsSearching, Meets, SeesAfter, SeesAfterEach, SeesNext, SeesStart, Waits, journal_to, sees}
 use Rattle.abt_explore.specs.Seen.{IsAdded, has}
-use Rattle.abt_explore.specs.Unnumbered.{unnumbered_model, unnumbered_state}
+use Rattle.abt_explore.specs.Unnumbered.{unnumbered_state}
 use Rattle.abt_explore.proofs.Reaching.{done-reached, reached-after}
 use Rattle.abt_explore.proofs.SameValues.{stands-forgotten}
 use Rattle.abt_explore.proofs.Searching.{contains-none, contains-rest, searching-met, sees-grown}
 
 -- The start.
 
+-- a list of one has its element at one place
+only-place : (model m : ModelValue) (i : ℕ) → slice_get (model ∷ []) i ≡ Some m → i ≡ 0
+only-place model m zero is = refl
+only-place model m (suc i) is = cc
+
 module _ (W : Parts) (Z : Stored) (model : ModelValue) (begun : Search) (none : Seen) (stands : StandsFor W (start W) model)
-    (empty : (key : List ℕ) → has none key ≡ false) (added : IsAdded (model_key model) none begun.seen)
+    (empty : (key : List ℕ) → has none key ≡ false) (added : IsAdded (model_key model) none begun.seen) (bytes : begun.seen.bytes ≤ length (model_key model))
     (paths : begun.paths ≡ [] ∷ []) (waiting : begun.waiting.items ≡ record { node = 0; depth = 0; model = model } ∷ []) (ends : begun.ends.items ≡ []) where
   -- the start, as it is found
   abbrev first : Found
@@ -61,6 +67,24 @@ module _ (W : Parts) (Z : Stored) (model : ModelValue) (begun : Search) (none : 
       | inr other ↦ absurd (contains-none [] f refl other)
     ];
     real = λ e h. absurd (contains-none begun.ends.items e ends h);
+    found = (
+      model ∷ [],
+      record {
+        apart = record {
+          reached = λ m here. elim (contains-rest model [] m here.0 here.1 here.2) [
+            | inl is ↦ ([], subst (λ (x : ModelValue). IsReachedBy W Z [] x) is (record { run = tt; counted = tt; shows = stands }))
+            | inr other ↦ absurd (contains-none [] m refl other)
+          ];
+          distinct = λ i j m at_i at_j. only-place model m i at_i ∙ sym (only-place model m j at_j);
+        };
+        many = ap (λ (js : List (List Event)). length js) (sym paths);
+        seen = λ m here. elim (contains-rest model [] m here.0 here.1 here.2) [
+          | inl is ↦ subst (λ (x : ModelValue). IsTrue (sees begun x)) is added.added
+          | inr other ↦ absurd (contains-none [] m refl other)
+        ];
+        bytes = omega (arith, bytes);
+      },
+    );
     distinct = λ i j one two at_one at_two same units. absurd (let none : ◌≡◌ {A = Option End} None (Some one) = subst (λ (es : List End). slice_get es i ≡ Some one) ends at_one in cc);
   }
 

@@ -15,7 +15,8 @@ use Rattle.abt_laws.proofs.SoundRuns.{runs-are-sound}
 use Rattle.abt_model.specs.Models.{IsAfter, IsDone, ModelValue, StandsFor}
 use Rattle.abt_explore.specs.Laws.{IsReachedBy, next_event}
 use Rattle.abt_explore.specs.Orders.{KeepsOrder}
-use Rattle.abt_explore.specs.Unnumbered.{unnumbered_model, unnumbered_state}
+use Rattle.abt_model.specs.Keys.{unnumbered_model}
+use Rattle.abt_explore.specs.Unnumbered.{unnumbered_state}
 use Rattle.abt_explore.proofs.Counting.{counts-push}
 use Rattle.abt_explore.proofs.SameChanges.{after-same}
 use Rattle.abt_explore.proofs.SameEvents.{may-numbered}

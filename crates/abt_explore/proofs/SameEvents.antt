@@ -14,6 +14,7 @@ use Rattle.abt_machine.specs.Numbers.{stream_no}
 use Rattle.abt_machine.specs.Rounds.{IsChosen, IsNextPool, IsOrder}
 use Rattle.abt_machine.specs.State.{Frame, State}
 use Rattle.abt_machine.specs.Workloads.{op_at, pools_of}
+use Rattle.abt_model.specs.Choices.{CallsAny}
 use Rattle.abt_explore.specs.Orders.{KeepsOrder}
 use Rattle.abt_replay.specs.Unnumbered.{unnumbered_frame}
 use Rattle.abt_explore.specs.Unnumbered.{unnumbered_state}
@@ -46,6 +47,10 @@ module _ (W : Parts) (Z : Stored) (keeps : KeepsOrder W Z.orders) (S : State) (s
 
   frame-back : (u : ℕ) → S.place u ≡ place.Frame (stream_no s) (length (map unnumbered_frame (S.stream s).below) - 1) → S.place u ≡ place.Frame (stream_no s) (length (S.stream s).below - 1)
   frame-back u at = at ∙ ap (λ n. place.Frame (stream_no s) (n - 1)) (length-map (S.stream s).below unnumbered_frame)
+
+  -- a call of a function that may return any word is due with numbers too
+  pub call-numbered : (f : ℕ) → CallsAny W Z (unnumbered_state S) s f → CallsAny W Z S s f
+  call-numbered f calls = record { unit = calls.unit; step = sym due-same ∙ calls.step; here = calls.here; call = calls.call; any = calls.any }
 
   -- an event that may come may come without numbers
   pub may-forgotten : (w : What) → May W Z S s w → May W Z (unnumbered_state S) s w

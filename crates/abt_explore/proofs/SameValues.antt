@@ -13,7 +13,8 @@ use Rattle.abt_machine.specs.Values.{barrier_at, eventual_at, future_at, monitor
 use Rattle.abt_machine.specs.Workloads.{thing_at}
 use Rattle.abt_model.specs.Models.{ModelValue, StandsFor}
 use Rattle.abt_replay.specs.Unnumbered.{unnumbered_frame, unnumbered_held}
-use Rattle.abt_explore.specs.Unnumbered.{unnumbered_model, unnumbered_state}
+use Rattle.abt_model.specs.Keys.{unnumbered_model}
+use Rattle.abt_explore.specs.Unnumbered.{unnumbered_state}
 
 -- Objects.
 
@@ -57,6 +58,7 @@ module _ (W : Parts) (S : State) where
       own = λ k l. slice_get-map unnumbered_held model.lanes k ∙ ap (option_map unnumbered_held) (stands.lanes.own k l);
     };
     objects = λ x is. stands.objects x is ∙ sym (object-same x);
+    places = stands.places;
   }
 
 -- Ends.

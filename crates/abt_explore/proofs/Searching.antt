@@ -1,8 +1,9 @@
 -- Steps of a search.
-use Rattle.std.proofs.Common.{◌≡◌, ◌∙◌, ℕ, zero, suc, ◌<◌, ◌≤◌, ◌+◌, ◌⊎◌, List, [], ◌∷◌, ◌++◌, Option, Some, IsTrue, Contains, ap, arith, get_or, inl, inr, length, length-append, refl, subst, sym}
+use Rattle.std.proofs.Common.{◌≡◌, ◌∙◌, ℕ, zero, suc, ◌<◌, ◌≤◌, ◌+◌, ◌⊎◌, false, true, List, [], ◌∷◌, ◌++◌, Option, Some, IsTrue, Contains, ap, arith, get_or, inl, inr, length, length-append, refl, subst, sym}
 use Rattle.std.specs.List.{slice_get}
 use Rattle.std.proofs.lemmas.List.{get_or_append_left, get_or_push, length_push}
 use Rattle.std.proofs.lemmas.List.Elements.{Contains-push, Contains-push_cases}
+use Rattle.std.proofs.lemmas.List.Sums.{sum_by_push}
 use Rattle.std.proofs.lemmas.Option.{get_or_from_slice_get, slice_get_within}
 use Rattle.abt_machine.specs.declared.events.Event.{Event}
 use Rattle.abt_machine.specs.declared.events.What.{What}
@@ -14,10 +15,12 @@ use Rattle.abt_model.specs.Models.{ModelValue}
 use Rattle.abt_model.specs.Keys.{model_key}
 use Rattle.abt_explore.specs.declared.search.Found.{Found}
 use Rattle.abt_explore.specs.declared.search.Search.{Search}
-use Rattle.abt_explore.specs.Explored.{AreDistinctEnds}
+use Rattle.abt_explore.specs.declared.exploration.End.{End}
+use Rattle.abt_explore.specs.Explored.{AreApart, AreDistinctEnds, key_bytes}
 use Rattle.abt_explore.specs.Laws.{IsReachedBy, next_event}
-use Rattle.abt_explore.specs.Searches.{Grows, HasMet, IsExpanded, IsMet, IsSearching, Meets, Sees, Waits, event_after, found_after, journal_to, sees}
+use Rattle.abt_explore.specs.Searches.{AreFound, Grows, HasMet, IsExpanded, IsMet, IsSearching, Meets, Sees, Waits, event_after, found_after, journal_to, sees}
 use Rattle.abt_model.proofs.Telling.{keys-tell-models}
+use Rattle.abt_explore.proofs.Growing.{push-cases}
 
 -- Lists.
 
@@ -44,11 +47,18 @@ contains-at xs k x is = (k, slice_get_within xs k x is, get_or_from_slice_get xs
 
 -- a search that grows has what it had
 pub grows-same : (search : Search) → Grows search search
-grows-same search = record { seen = λ m h. h; met = λ W Z f h. h; ends = λ e h. h }
+grows-same search = record { seen = λ m h. h; met = λ W Z f h. h; ends = λ e h. h; count = refl }
 
 -- a search that grows twice grows
 pub grows-on : (one two three : Search) → Grows one two → Grows two three → Grows one three
-grows-on one two three a b = record { seen = λ m h. b.seen m (a.seen m h); met = λ W Z f h. b.met W Z f (a.met W Z f h); ends = λ e h. b.ends e (a.ends e h) }
+grows-on one two three a b = record {
+  seen = λ m h. b.seen m (a.seen m h);
+  met = λ W Z f h. b.met W Z f (a.met W Z f h);
+  ends = λ e h. b.ends e (a.ends e h);
+  count =
+      let first : length two.paths + length one.waiting.items ≡ length one.paths + length two.waiting.items = a.count in
+      let second : length three.paths + length two.waiting.items ≡ length two.paths + length three.waiting.items = b.count in omega arith;
+}
 
 module _ (W : Parts) (Z : Stored) where
   -- what is seen stays so
@@ -56,11 +66,15 @@ module _ (W : Parts) (Z : Stored) where
   sees-grown old new S grows here = (here.0, grows.seen here.0 here.1, here.2)
 
   -- what is expanded stays so
-  pub expanded-grown : (old new : Search) (model : ModelValue) → Grows old new → IsExpanded W Z old model → IsExpanded W Z new model
-  expanded-grown old new model grows expanded = record {
-    next = λ s declared S w is_after stands may. sees-grown old new (after W S s w) grows (expanded.next s declared S w is_after stands may);
-    listed = λ S sound stands quiet. let end = expanded.listed S sound stands quiet in (end.0, grows.ends end.0 end.1, end.2);
+  pub expanded-kept : (old new : Search) (model : ModelValue) → ((m : ModelValue) → IsTrue (sees old m) → IsTrue (sees new m)) → ((end : End) → Contains old.ends.items end → Contains new.ends.items end)
+      → IsExpanded W Z old model → IsExpanded W Z new model
+  expanded-kept old new model seen ends expanded = record {
+    next = λ s declared S w is_after stands may. let here = expanded.next s declared S w is_after stands may in (here.0, seen here.0 here.1, here.2);
+    listed = λ S sound stands quiet. let end = expanded.listed S sound stands quiet in (end.0, ends end.0 end.1, end.2);
   }
+
+  pub expanded-grown : (old new : Search) (model : ModelValue) → Grows old new → IsExpanded W Z old model → IsExpanded W Z new model
+  expanded-grown old new model grows expanded = expanded-kept old new model grows.seen grows.ends expanded
 
   -- a journal more
   met-more : (journals : List (List Event)) (J : List Event) (found : Found) → IsMet W Z journals found → IsMet W Z (journals ++ J ∷ []) found
@@ -82,15 +96,46 @@ module _ (W : Parts) (Z : Stored) where
   met-grown old before s w model new found (inr h) met = subst (λ (js : List (List Event)). IsMet W Z js found) (sym h.0)
       (met-more old.paths (journal_to old.paths before ++ event_after before s w ∷ []) found met)
 
+-- Models that are apart.
+
+-- one model more, which is none of them
+apart-more : (W : Parts) (Z : Stored) (models : List ModelValue) (model : ModelValue) → AreApart W Z models → (J : List Event) → IsReachedBy W Z J model → (Contains models model → ⊥) → AreApart W Z (models ++ model ∷ [])
+apart-more W Z models model apart J reached other = record {
+  reached = λ m here. elim (Contains-push_cases models model m here) [
+    | inl earlier ↦ apart.reached m earlier
+    | inr last ↦ (J, subst (λ (x : ModelValue). IsReachedBy W Z J x) last reached)
+  ];
+  distinct = λ i j m at_i at_j. elim (push-cases models model m i at_i) [
+    | inl one ↦ elim (push-cases models model m j at_j) [
+      | inl two ↦ apart.distinct i j m one two
+      | inr last ↦ absurd (other (contains-at models i model (one ∙ ap (λ (x : ModelValue). Some x) (sym last.0))))
+    ]
+    | inr last ↦ elim (push-cases models model m j at_j) [
+      | inl two ↦ absurd (other (contains-at models j model (two ∙ ap (λ (x : ModelValue). Some x) (sym last.0))))
+      | inr also ↦ last.1 ∙ sym also.1
+    ]
+  ];
+}
+
 -- Meeting.
 
 module _ (old : Search) (before : Found) (s : ℕ) (w : What) (model : ModelValue) (new : Search) (meets : Meets old before s w model new) where
+  -- if a journal is more, a model more waits
+  counts-met : HasMet old before s w model new → length new.paths + length old.waiting.items ≡ length old.paths + length new.waiting.items
+  counts-met (inl h) =
+      let paths : length new.paths ≡ length old.paths = ap (λ (js : List (List Event)). length js) h.1 in
+      let waiting : length new.waiting.items ≡ length old.waiting.items = ap (λ (fs : List Found). length fs) h.2 in omega arith
+  counts-met (inr h) =
+      let paths : length new.paths ≡ length old.paths + 1 = ap (λ (js : List (List Event)). length js) h.0 ∙ length_push old.paths (journal_to old.paths before ++ event_after before s w ∷ []) in
+      let waiting : length new.waiting.items ≡ length old.waiting.items + 1 = ap (λ (fs : List Found). length fs) h.1 ∙ length_push old.waiting.items (found_after old before model) in omega arith
+
   -- a search grows when it meets a model
   pub grows-met : Grows old new
   grows-met = record {
     seen = λ m h. meets.added.kept (model_key m) h;
     met = λ W Z found met. met-grown W Z old before s w model new found meets.met met;
     ends = λ e h. subst (λ v. Contains v.items e) (sym meets.ends) h;
+    count = counts-met meets.met;
   }
 
   -- what waited waits
@@ -148,6 +193,34 @@ module _ (old : Search) (before : Found) (s : ℕ) (w : What) (model : ModelValu
       | inr last ↦ subst (λ (f : Found). IsMet W Z new.paths f) last (found-met h.0)
     ]
 
+    -- a model that was seen is not found again
+    found-again : HasMet old before s w model new → (models : List ModelValue) → AreFound W Z old models → (more : List ModelValue) × AreFound W Z new more
+    found-again (inl h) models found = (
+      models,
+      record {
+        apart = found.apart;
+        many = found.many ∙ ap (λ (js : List (List Event)). length js) (sym h.1);
+        seen = λ m here. grows-met.seen m (found.seen m here);
+        bytes = let few : old.seen.bytes ≤ key_bytes models = found.bytes in omega (arith, h.3);
+      },
+    )
+    found-again (inr h) models found = (
+      models ++ model ∷ [],
+      record {
+        apart = apart-more W Z models model (found.apart) (journal_to old.paths before ++ next_event (journal_to old.paths before) s w ∷ []) reached
+            (λ here. let seen : sees old model ≡ true = found.seen model here in let other : sees old model ≡ false = h.2 in cc);
+        many = length_push models model ∙ (ap (λ n. n + 1) found.many ∙ (sym (length_push old.paths (journal_to old.paths before ++ event_after before s w ∷ [])) ∙ ap (λ (js : List (List Event)). length js) (sym h.0)));
+        seen = λ m here. elim (Contains-push_cases models model m here) [
+          | inl earlier ↦ grows-met.seen m (found.seen m earlier)
+          | inr last ↦ subst (λ (x : ModelValue). IsTrue (sees new x)) last meets.added.added
+        ];
+        bytes =
+            let few : old.seen.bytes ≤ key_bytes models = found.bytes in
+            let more : new.seen.bytes ≤ old.seen.bytes + length (model_key model) = h.3 in
+            let sum : key_bytes (models ++ model ∷ []) ≡ key_bytes models + length (model_key model) = sum_by_push (λ (m : ModelValue). length (model_key m)) models model in omega arith;
+      },
+    )
+
     -- the search goes on
     pub searching-met : IsSearching W Z hand new
     searching-met = record {
@@ -158,4 +231,5 @@ module _ (old : Search) (before : Found) (s : ℕ) (w : What) (model : ModelValu
       waiting = λ found here. waiting-met found meets.met here;
       real = λ e h. searching.real e (subst (λ v. Contains v.items e) meets.ends h);
       distinct = subst (λ v. AreDistinctEnds v.items) (sym meets.ends) searching.distinct;
+      found = found-again meets.met searching.found.0 searching.found.1;
     }

@@ -16,7 +16,8 @@ use Rattle.abt_machine.specs.Stamps.{Stamped}
 use Rattle.abt_machine.specs.Texts.{shown_units}
 use Rattle.abt_model.specs.Models.{IsAfter, IsDone, ModelValue, StandsFor}
 use Rattle.abt_explore.specs.Orders.{KeepsOrder}
-use Rattle.abt_explore.specs.Unnumbered.{unnumbered_model, unnumbered_state}
+use Rattle.abt_model.specs.Keys.{unnumbered_model}
+use Rattle.abt_explore.specs.Unnumbered.{unnumbered_state}
 
 -- the model stands for the state, but for the numbers of rounds
 abbrev pub Shows : Parts → State → ModelValue → Type 0

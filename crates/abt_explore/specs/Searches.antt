@@ -1,5 +1,5 @@
 -- What a search knows at each of its steps.
-use Rattle.std.specs.Prelude.{ℕ, ◌≡◌, ◌<◌, ◌≤◌, ◌+◌, ◌⊎◌, Bool, List, [], ◌∷◌, ◌++◌, length, get_or, IsTrue, Contains, Option, None, Some, ⊤}
+use Rattle.std.specs.Prelude.{ℕ, ◌≡◌, ◌<◌, ◌≤◌, ◌+◌, ◌⊎◌, Bool, false, List, [], ◌∷◌, ◌++◌, length, get_or, IsTrue, Contains, Option, None, Some}
 use Rattle.abt_machine.specs.declared.events.Event.{Event}
 use Rattle.abt_machine.specs.declared.events.Outcome.{Outcome}
 use Rattle.abt_machine.specs.declared.events.Outcome.TheVariants as outcome
@@ -23,7 +23,7 @@ use Rattle.abt_explore.specs.declared.exploration.Exploration.{Exploration}
 use Rattle.abt_explore.specs.declared.exploration.Exploration.TheVariants as exploration
 use Rattle.abt_explore.specs.declared.search.Found.{Found}
 use Rattle.abt_explore.specs.declared.search.Search.{Search}
-use Rattle.abt_explore.specs.Explored.{AreDistinctEnds, IsRealEnd}
+use Rattle.abt_explore.specs.Explored.{AreApart, AreDistinctEnds, IsRealEnd, key_bytes}
 use Rattle.abt_explore.specs.Laws.{IsReachedBy, SeesState}
 use Rattle.abt_explore.specs.Same.{ListsSame}
 use Rattle.abt_explore.specs.Seen.{IsAdded, has}
@@ -69,10 +69,6 @@ SeesAfterEach W Z search model s hints = (hint : What) → Contains hints hint �
 abbrev pub SeesNext : Parts → Stored → Search → ModelValue → ℕ → Type 0
 SeesNext W Z search model s = (S : State) (w : What) → IsAfter W Z 0 S → StandsFor W S model → May W Z S s w → Sees W search (after W S s w)
 
--- of some function any word may come
-abbrev pub MayReturnAny : (ℕ → ℕ → ℕ → List ℕ → Option ℕ) → ℕ → Type 0
-MayReturnAny returns f = (u acc : ℕ) × (keys : List ℕ) × (returns f u acc keys ≡ None)
-
 -- Ends.
 
 -- the outcome of a state in which nothing is left to do
@@ -101,18 +97,29 @@ pub record IsExpanded (W : Parts) (Z : Stored) (search : Search) (model : ModelV
   pub next : (s : ℕ) → s < W.streams → SeesNext W Z search model s
   pub listed : ListsEnd W Z search.ends.items model
 
--- each model that was seen waits, is the one in hand, or is expanded; real runs lead to those that wait; and the ends are real, each once
+-- these are the models that the search found, one for each journal: runs lead to what they show, no two are the same, they were
+-- seen, and their keys have at least the bytes that were counted
+pub record AreFound (W : Parts) (Z : Stored) (search : Search) (models : List ModelValue) : Type 0 where
+  pub apart : AreApart W Z models
+  pub many : length models ≡ length search.paths
+  pub seen : (model : ModelValue) → Contains models model → IsTrue (sees search model)
+  pub bytes : search.seen.bytes ≤ key_bytes models
+
+-- each model that was seen waits, is the one in hand, or is expanded; real runs lead to those that wait; the ends are real, each
+-- once; and what it found are models that are apart
 pub record IsSearching (W : Parts) (Z : Stored) (hand : Option ModelValue) (search : Search) : Type 0 where
   pub seen : (model : ModelValue) → IsTrue (sees search model) → Waits search model ⊎ ((hand ≡ Some model) ⊎ IsExpanded W Z search model)
   pub waiting : (found : Found) → Contains search.waiting.items found → IsMet W Z search.paths found
   pub real : (end : End) → Contains search.ends.items end → IsRealEnd W Z end
   pub distinct : AreDistinctEnds search.ends.items
+  pub found : (models : List ModelValue) × AreFound W Z search models
 
--- journals, models and ends that the search had stay
+-- journals, models and ends that the search had stay, and for each journal more a model more waits
 pub record Grows (old new : Search) : Type 0 where
   pub seen : (model : ModelValue) → IsTrue (sees old model) → IsTrue (sees new model)
   pub met : (W : Parts) (Z : Stored) (found : Found) → IsMet W Z old.paths found → IsMet W Z new.paths found
   pub ends : (end : End) → Contains old.ends.items end → Contains new.ends.items end
+  pub count : length new.paths + length old.waiting.items ≡ length old.paths + length new.waiting.items
 
 -- Steps.
 
@@ -127,8 +134,9 @@ found_after old before model = record { node = length old.paths; depth = before.
 -- the model was seen, or it waits now, behind the others
 abbrev pub HasMet : Search → Found → ℕ → What → ModelValue → Search → Type 0
 HasMet old before s w model new =
-    (IsTrue (sees old model) × (new.paths ≡ old.paths) × (new.waiting.items ≡ old.waiting.items))
-    ⊎ ((new.paths ≡ old.paths ++ (journal_to old.paths before ++ event_after before s w ∷ []) ∷ []) × (new.waiting.items ≡ old.waiting.items ++ found_after old before model ∷ []))
+    (IsTrue (sees old model) × (new.paths ≡ old.paths) × (new.waiting.items ≡ old.waiting.items) × (new.seen.bytes ≡ old.seen.bytes))
+    ⊎ ((new.paths ≡ old.paths ++ (journal_to old.paths before ++ event_after before s w ∷ []) ∷ []) × (new.waiting.items ≡ old.waiting.items ++ found_after old before model ∷ [])
+    × (sees old model ≡ false) × (new.seen.bytes ≤ old.seen.bytes + length (model_key model)))
 
 -- event w of stream s led from what was found before to the model
 pub record Meets (old : Search) (before : Found) (s : ℕ) (w : What) (model : ModelValue) (new : Search) : Type 0 where
@@ -160,8 +168,8 @@ Takes old None new = (old.waiting.items ≡ []) × (new.ends ≡ old.ends)
 Takes old (Some found) new =
     (rest : List Found) × (old.waiting.items ≡ found ∷ rest) × (new.waiting.items ≡ rest) × (new.paths ≡ old.paths) × (new.seen ≡ old.seen) × (new.ends ≡ old.ends)
 
--- the ends are all if no model waits
-abbrev pub IsFinished : Search → Exploration → Type 0
-IsFinished search (exploration.Whole states ends) = (search.waiting.items ≡ []) × (ends ≡ search.ends)
-IsFinished search exploration.TooMany = ⊤
-IsFinished search (exploration.AnyWord f) = ⊥
+-- the ends are all if no model waits, and then this many states were searched
+abbrev pub IsFinished : Search → ℕ → Exploration → Type 0
+IsFinished search most (exploration.Whole states ends) = (search.waiting.items ≡ []) × (ends ≡ search.ends) × (states ≡ most)
+IsFinished search most exploration.TooMany = 0 < length search.waiting.items
+IsFinished search most (exploration.AnyWord f) = ⊥

@@ -18,6 +18,6 @@ pub enum Exploration {
     Whole { states: u64, ends: Vec<End> },
     /// There are more states than were to be searched, or their keys have too many bytes.
     TooMany,
-    /// A unit came to call the function of this number, which may return more than one word.
+    /// A unit came to call the function of this number, which may return any word there.
     AnyWord { function: u32 },
 }

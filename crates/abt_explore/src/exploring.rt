@@ -1,6 +1,6 @@
 //! All interleavings of a workload.
 
-ghost use Rattle.std.specs.Prelude.{◌≡◌, ◌≤◌, IfOk, None, length};
+ghost use Rattle.std.specs.Prelude.{◌≤◌, IfOk, None, length};
 ghost use Rattle.abt_explore.specs.Explored.{IsExplored};
 ghost use Rattle.abt_explore.specs.Orders.{KeepsOrder};
 ghost use Rattle.abt_explore.specs.Searches.{IsFinished};
@@ -11,6 +11,7 @@ ghost use Rattle.abt_order.specs.Stored.{shapes_of, stored_of};
 use crate::exploration::Exploration;
 use crate::search::Search;
 use abt_machine::{OrderShape, Want, Workload};
+use abt_model::shapes;
 use abt_order::StoredOrder;
 use abt_work::Work;
 use std::alloc::Global;
@@ -18,10 +19,10 @@ use std::alloc::Global;
 // The most bytes that the keys of all states may have: a state of units that put out words for ever has ever more.
 const MOST_BYTES: u64 = 1 << 30;
 
-/// Searches all interleavings of a workload, breadth first, of at most `most` states, whose keys have at most 2^30 bytes, for the ways in which it ends. Two states
-/// are one if they differ in the numbers of rounds alone, so each scheduler has to have the same order in each of its rounds. Of
-/// the stored orders only the shapes count: a round by a free order may visit its pools in any order. Each function is called,
-/// with the arguments that come up, any number of times. Out of memory is the only error.
+/// Searches all interleavings of a workload, breadth first, of at most `most` states, whose keys have at most 2^30 bytes, for
+/// the ways in which it ends. Two states are one if they differ in the numbers of rounds alone, so each scheduler has to have
+/// the same order in each of its rounds. Of the stored orders only the shapes count: a round by a free order may visit its pools
+/// in any order. Each function is called, with the arguments that come up, any number of times. Out of memory is the only error.
 pub fn explore<P: Work>(
     alloc: Global,
     w: &Workload,
@@ -32,21 +33,10 @@ pub fn explore<P: Work>(
     requires orders { 2 ≤ length orders.now }
     requires calls { CallsStored w.now (P.count work.now) }
     requires keeps_order { KeepsOrder w.now (shapes_of orders.now) }
-    ensures { IfOk result (IsExplored w.now (stored_of orders.now (P.returns work.now))) }
+    ensures { IfOk result (IsExplored w.now (stored_of orders.now (P.returns work.now)) most) }
 {
     let shapes = shapes(alloc, orders)?;
     search_all(alloc, w, &shapes, work, most)
-}
-
-// The shapes of stored orders.
-fn shapes(alloc: Global, orders: &[StoredOrder]) -> Result<Vec<OrderShape>, Want>
-    ensures { IfOk result (λ shapes. shapes.items ≡ shapes_of orders.now) }
-{
-    let mut shapes = Vec::with_capacity(alloc, orders.len())?;
-    for order in orders {
-        shapes.push(order.shape())?;
-    }
-    Ok(shapes)
 }
 
 // Searches all interleavings. `z` has the shapes of the stored orders.
@@ -60,7 +50,7 @@ fn search_all<P: Work>(
     requires orders { 2 ≤ length z.now }
     requires calls { CallsStored w.now (P.count work.now) }
     requires keeps_order { KeepsOrder w.now z.now }
-    ensures { IfOk result (IsExplored w.now (stored_with z.now (P.returns work.now))) }
+    ensures { IfOk result (IsExplored w.now (stored_with z.now (P.returns work.now)) most) }
 {
     w.known();
     let mut search = Search::start(alloc, w)?;
@@ -86,7 +76,7 @@ fn search_all<P: Work>(
 
 // What a search found that has expanded this many models and is to expand no more.
 fn finished(search: Search, states: u64) -> Exploration
-    ensures { IsFinished search result }
+    ensures { IsFinished search states result }
 {
     if !search.waiting.is_empty() {
         return Exploration::TooMany;

@@ -1,8 +1,9 @@
 //! A search of all interleavings, breadth first.
 
 ghost use Rattle.std.specs.Prelude.{ℕ, ◌≡◌, ◌<◌, ◌≤◌, ◌∷◌, ◌++◌, [], IfOk, OnOk, IfSome, IfNone, MatchOption, List, None, Option, Some, get_or, length};
+ghost use Rattle.abt_explore.specs.Explored.{MayCallAny};
 ghost use Rattle.abt_explore.specs.Orders.{KeepsOrder};
-ghost use Rattle.abt_explore.specs.Searches.{NotesIfQuiet, Grows, HasOutcome, IsMet, IsSearching, ListsEnd, Meets, MayReturnAny, Notes, SeesAfter, SeesAfterEach, SeesNext, SeesStart, Takes};
+ghost use Rattle.abt_explore.specs.Searches.{NotesIfQuiet, Grows, HasOutcome, IsMet, IsSearching, ListsEnd, Meets, Notes, SeesAfter, SeesAfterEach, SeesNext, SeesStart, Takes};
 ghost use Rattle.abt_machine.specs.Rounds.{OrdersStored};
 ghost use Rattle.abt_machine.specs.Sound.{Sound};
 ghost use Rattle.abt_machine.specs.State.{State};
@@ -41,7 +42,7 @@ pub(crate) struct Search {
 impl Search {
     /// A search that has found the start. Out of memory is the only error.
     pub(crate) fn start(alloc: Global, w: &Workload) -> Result<Search, Want>
-        ensures { IfOk result (λ search. (Z : Stored) → SeesStart w.now search × IsSearching w.now Z None search) }
+        ensures { IfOk result (λ search. (Z : Stored) → SeesStart w.now search × IsSearching w.now Z None search × (length search.paths ≡ length search.waiting.items)) }
     {
         let model = Model::start(alloc, w)?;
         let mut seen = Seen::new(alloc);
@@ -61,7 +62,7 @@ impl Search {
     }
 
     /// Expands a model that was found: notes its end if nothing is left to do, and finds what each event that may come leads to;
-    /// or returns the number of a function that may return any word, and that is to be called. Out of memory is the only error.
+    /// or returns the number of a function that is to be called, and may return any word there. Out of memory is the only error.
     pub(crate) fn expand<P: Work>(
         &mut self,
         alloc: Global,
@@ -78,7 +79,7 @@ impl Search {
         requires searching { IsSearching w.now (stored_with z.now (P.returns work.now)) (Some found.now.model) self.old }
         ensures grows { OnOk result (Grows self.old self.new) }
         ensures searching { IfOk result (λ any. IfNone any (IsSearching w.now (stored_with z.now (P.returns work.now)) None self.new)) }
-        ensures any { IfOk result (λ any. IfSome any (MayReturnAny (P.returns work.now))) }
+        ensures any { IfOk result (λ any. IfSome any (MayCallAny w.now (stored_with z.now (P.returns work.now)))) }
     {
         self.note_if_quiet(alloc, w, found)?;
         let any = self.expand_streams(alloc, w, z, work, found)?;
@@ -122,7 +123,7 @@ impl Search {
         requires searching { IsSearching w.now (stored_with z.now (P.returns work.now)) (Some found.now.model) self.old }
         ensures grows { OnOk result (Grows self.old self.new) }
         ensures searching { OnOk result (IsSearching w.now (stored_with z.now (P.returns work.now)) (Some found.now.model) self.new) }
-        ensures all { IfOk result (λ any. MatchOption any ((s : ℕ) → s < w.now.streams → SeesNext w.now (stored_with z.now (P.returns work.now)) self.new found.now.model s) (MayReturnAny (P.returns work.now))) }
+        ensures all { IfOk result (λ any. MatchOption any ((s : ℕ) → s < w.now.streams → SeesNext w.now (stored_with z.now (P.returns work.now)) self.new found.now.model s) (MayCallAny w.now (stored_with z.now (P.returns work.now)))) }
     {
         for s in 0..w.streams() {
             match self.expand_stream(alloc, w, z, work, found, StreamNo(s))? {
@@ -152,7 +153,7 @@ impl Search {
         requires searching { IsSearching w.now (stored_with z.now (P.returns work.now)) (Some found.now.model) self.old }
         ensures grows { OnOk result (Grows self.old self.new) }
         ensures searching { OnOk result (IsSearching w.now (stored_with z.now (P.returns work.now)) (Some found.now.model) self.new) }
-        ensures all { IfOk result (λ any. MatchOption any (SeesNext w.now (stored_with z.now (P.returns work.now)) self.new found.now.model s.0) (MayReturnAny (P.returns work.now))) }
+        ensures all { IfOk result (λ any. MatchOption any (SeesNext w.now (stored_with z.now (P.returns work.now)) self.new found.now.model s.0) (MayCallAny w.now (stored_with z.now (P.returns work.now)))) }
     {
         match found.model.choices(alloc, w, z, work, s)? {
             Choices::AnyWord(function) => Ok(Some(function)),

@@ -1,7 +1,7 @@
 //! The models that a search has seen, by their keys.
 
-ghost use Rattle.std.specs.Prelude.{◌≡◌, IfOk, OnOk, List, ℕ, false, true};
-ghost use Rattle.std.specs.Bool.{OnFalse};
+ghost use Rattle.std.specs.Prelude.{◌≡◌, ◌≤◌, ◌+◌, IfOk, OnOk, List, ℕ, false, length, true};
+ghost use Rattle.std.specs.Bool.{OnFalse, OnTrue};
 ghost use Rattle.abt_explore.specs.Seen.{IsAdded, has};
 ghost use Rattle.abt_model.specs.Keys.{model_key};
 
@@ -21,7 +21,8 @@ pub(crate) struct Seen {
 impl Seen {
     /// No model.
     pub(crate) fn new(alloc: Global) -> Seen
-        ensures { (key : List ℕ) → has result key ≡ false }
+        ensures none { (key : List ℕ) → has result key ≡ false }
+        ensures bytes { result.bytes ≡ 0 }
     {
         Seen {
             keys: HashSet::new(alloc),
@@ -34,6 +35,9 @@ impl Seen {
     pub(crate) fn add(&mut self, model: &Model) -> Result<bool, Want>
         ensures added { OnOk result (IsAdded (model_key model.now) self.old self.new) }
         ensures old { IfOk result (λ new. OnFalse new (has self.old (model_key model.now) ≡ true)) }
+        ensures new { IfOk result (λ new. OnTrue new (has self.old (model_key model.now) ≡ false)) }
+        ensures same { IfOk result (λ new. OnFalse new (self.new.bytes ≡ self.old.bytes)) }
+        ensures bytes { OnOk result (self.new.bytes ≤ self.old.bytes + length (model_key model.now)) }
     {
         self.next.clear();
         model.write(&mut self.next)?;

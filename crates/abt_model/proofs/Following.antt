@@ -36,7 +36,7 @@ use Rattle.abt_laws.proofs.Options.{none≢some, some-injective}
 use Rattle.abt_laws.proofs.SoundRuns.{events-keep-sound}
 use Rattle.abt_laws.proofs.Standing.{StandsIn, first-stands}
 use Rattle.abt_replay.specs.Events.{CannotCall, Heeds, MakesEvent, ReturnsSaid}
-use Rattle.abt_replay.specs.Objects.{ObjectsValue, object_at, same_place}
+use Rattle.abt_replay.specs.Objects.{HasPlaces, ObjectsValue, object_at, same_place}
 use Rattle.abt_calls.proofs.Asked.{may-ask}
 use Rattle.abt_simulation.specs.Simulation.{CalledAnswers, IsEventFrom, site_heard}
 use Rattle.abt_simulation.proofs.CalledSites.{steps-site}
@@ -75,6 +75,10 @@ has-units W Z s S sound = record {
   next = if-some W (first (owned_in W S (InNext s))) (λ o e. stands-of W Z S (InNext s) o sound e);
   tray = if-some W (first (owned_in W S (InTray s))) (λ o e. stands-of W Z S (InTray s) o sound e);
 }
+
+-- the unit in a stream's hand is the workload's
+pub hand-declared : (W : Parts) (Z : Stored) (s : ℕ) (S : State) → Sound W Z S → IfSome (part_of W S s).hand (IsOfWorkload W)
+hand-declared W Z s S sound = (has-units W Z s S sound).hand
 
 -- what a stream holds in a state can move
 pub can-move : (W : Parts) (Z : Stored) (n s : ℕ) (S : State) → n < 2 ^ 64 - 1 → s < W.streams → IsAfter W Z n S → CanMove W Z.orders (part_of W S s)
@@ -145,6 +149,15 @@ module _ (W : Parts) (Z : Stored) (n s : ℕ) (S : State) (model : ModelValue) (
   objects-by None after e new T declared heeds event x here = ap (λ (o : ObjectsValue). object_at o x) heeds ∙ (stands.objects x here ∙ sym (event.other_objects x (λ same. none≢some same)))
   objects-by (Some h) after e new T declared heeds event x here = same-place-by h after e new T x (same_place h.0 x) refl (declared h.0 refl) here heeds event
 
+  -- the call leaves each place there
+  places-by : (heard : Option Heard) (after : ObjectsValue) → Heeds model.objects heard after → HasPlaces W after
+  places-by None after heeds = subst (HasPlaces W) (sym heeds) stands.places
+  places-by (Some h) after heeds = record {
+    pools = heeds.many.pools ∙ stands.places.pools;
+    desks = heeds.many.desks ∙ stands.places.desks;
+    slots = heeds.many.slots ∙ stands.places.slots;
+  }
+
   rounds-by : (r : ℕ) (T : State) (new : Held) → part_of W T s ≡ new → HasBegun (suc n) new.own → ((q : ℕ) → q ≢ s → part_of W T q ≡ part_of W S q) → HasBegun (suc n) (T.stream r)
   rounds-by r T new own here others =
       let same : (q : ℕ) → q ≡ s → HasBegun (suc n) (T.stream q) = λ q e. subst (λ k. HasBegun (suc n) (T.stream k)) (sym e) (subst (λ (held : Held). HasBegun (suc n) held.own) (sym own) here) in
@@ -173,6 +186,7 @@ module _ (W : Parts) (Z : Stored) (n s : ℕ) (S : State) (model : ModelValue) (
         stands = record {
           lanes = numbered-set (part_of W S) W.streams s model.lanes new (part_of W T) stands.lanes l (sym event.own) event.other_parts;
           objects = objects-by heard after e new T declared heeds event;
+          places = places-by heard after heeds;
         };
         site = λ x is. declared x (steps-site W Z s (part_of W S s) w heard new steps ∙ is);
       }

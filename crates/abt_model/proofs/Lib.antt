@@ -1,6 +1,7 @@
 pub mod Ending
 pub mod Following
 pub mod Hinting
+pub mod InHand
 pub mod Moving
 pub mod Numbered
 pub mod Picturing

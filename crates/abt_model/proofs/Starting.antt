@@ -77,4 +77,5 @@ pub model-starts : (W : Parts) (lanes : List Held) (objects : ObjectsValue) → 
 model-starts W lanes objects numbered are = record {
   lanes = record { many = numbered.many; own = λ k l. numbered.own k l ∙ ap (λ (held : Held). Some held) (sym (parts-start W k)) };
   objects = λ x here. objects-stand W objects are x here ∙ sym (objects-start W x);
+  places = record { pools = are.pools.many; desks = are.desks.many; slots = are.slots.many };
 }

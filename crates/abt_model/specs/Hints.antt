@@ -8,12 +8,12 @@ use Rattle.abt_machine.specs.declared.operations.OrderShape.{OrderShape}
 use Rattle.abt_machine.specs.Stored.{IsReturned, Returns, Stored}
 use Rattle.abt_machine.specs.declared.workload.Parts.{Parts}
 use Rattle.abt_machine.specs.Events.{May}
-use Rattle.abt_machine.specs.Next.{RoundDue, StepDue}
+use Rattle.abt_machine.specs.Next.{RoundDue, StepDue, due_of_unit}
 use Rattle.abt_machine.specs.Rounds.{IsNextPool}
-use Rattle.abt_machine.specs.State.{Frame, State}
+use Rattle.abt_machine.specs.State.{Frame, Mark, State}
 use Rattle.abt_machine.specs.Turns.{due_of}
 use Rattle.abt_machine.specs.Values.{Held, Owned}
-use Rattle.abt_machine.specs.Workloads.{op_at}
+use Rattle.abt_machine.specs.Workloads.{body_at, op_at}
 use Rattle.abt_order.specs.Schedulers.{pool_numbers}
 use Rattle.abt_bounds.specs.Laws.{returned, visited}
 use Rattle.abt_model.specs.Models.{IsDone, ModelValue}
@@ -27,15 +27,45 @@ pub record IsMade (W : Parts) (Z : Stored) (n : ℕ) (S : State) (s : ℕ) (hint
   pub done : IfSome made (λ w. IsDone W Z n S s w new)
   pub told : (w : What) → May W Z S s w → IsHint hint w → made ≡ Some w
 
+-- an event of stream s that the hint tells may come in state S
+abbrev pub TellsSome : Parts → Stored → State → ℕ → What → Type 0
+TellsSome W Z S s hint = (w : What) × May W Z S s w × IsHint hint w
+
 -- one of the hints tells each event of stream s that may come in state S
 abbrev pub HasHints : Parts → Stored → State → ℕ → List What → Type 0
 HasHints W Z S s hints = (w : What) → May W Z S s w → (hint : What) × Contains hints hint × IsHint hint w
+
+-- Units in hand.
+
+-- unit o with mark m, in the hand of stream s, is to call function f
+abbrev pub IsToCall : Parts → ℕ → Mark → Owned → ℕ → Type 0
+IsToCall W s m o f = (due_of_unit W s m (body_at W o.number) o.carried.position ≡ StepDue) × (op_at W o.number o.carried.position ≡ Some (op.Call f))
+
+-- it is to call this function, or none
+abbrev pub CallsNext : Parts → ℕ → Mark → Owned → Option ℕ → Type 0
+CallsNext W s m o (Some f) = IsToCall W s m o f
+CallsNext W s m o None = (f : ℕ) → IsToCall W s m o f → ⊥
+
+-- its next event may return this word, if it is a call, by what functions return
+abbrev pub MayReturn : Parts → (ℕ → ℕ → ℕ → List ℕ → Option ℕ) → ℕ → Mark → Owned → Option ℕ → Type 0
+MayReturn W returns s m o (Some n) = (f : ℕ) × IsToCall W s m o f × IsReturned (returns f o.number o.carried.acc o.carried.keys) n
+MayReturn W returns s m o None = CallsNext W s m o None
+
+-- it is to call function f, which may return any word
+abbrev pub MayReturnAny : Parts → (ℕ → ℕ → ℕ → List ℕ → Option ℕ) → ℕ → Mark → Owned → ℕ → Type 0
+MayReturnAny W returns s m o f = IsToCall W s m o f × (returns f o.number o.carried.acc o.carried.keys ≡ None)
+
+-- Streams.
+
+-- unit o in the hand of stream s is to call function f
+abbrev pub HoldsCall : Parts → ℕ → Held → Owned → ℕ → Type 0
+HoldsCall W s held o f = (held.hand ≡ Some o) × (due_of W s held ≡ StepDue) × (op_at W o.number o.carried.position ≡ Some (op.Call f))
 
 -- by what stream s holds an event may be next that visits this pool and returns this word, if any
 abbrev pub MayBeTold : Parts → Stored → ℕ → Held → Option ℕ → Option ℕ → Type 0
 MayBeTold W Z s held (Some p) None = (due_of W s held ≡ RoundDue) × IsNextPool W Z.orders held.own.top p
 MayBeTold W Z s held None (Some n) = (o : Owned) × (due_of W s held ≡ StepDue) × (held.hand ≡ Some o) × Returns Z (op_at W o.number o.carried.position) o.number o.carried n
-MayBeTold W Z s held None None = due_of W s held ≢ RoundDue
+MayBeTold W Z s held None None = (due_of W s held ≢ RoundDue) × ((o : Owned) (f : ℕ) → HoldsCall W s held o f → ⊥)
 MayBeTold W Z s held (Some p) (Some n) = ⊥
 
 -- one of the hints visits this pool and returns this word, if any
@@ -51,14 +81,13 @@ abbrev pub function_of : Option Op → Option ℕ
 function_of (Some (op.Call f)) = Some f
 function_of _ = None
 
--- one of the hints returns no word, and one each word that function f may return for unit o
+-- one of the hints returns each word that function f may return for unit o
 abbrev pub TellCall : (ℕ → ℕ → ℕ → List ℕ → Option ℕ) → ℕ → Owned → List What → Type 0
-TellCall returns f o hints = Tell hints None None × ((n : ℕ) → IsReturned (returns f o.number o.carried.acc o.carried.keys) n → Tell hints None (Some n))
+TellCall returns f o hints = (n : ℕ) → IsReturned (returns f o.number o.carried.acc o.carried.keys) n → Tell hints None (Some n)
 
--- one of the hints returns no word, and if the next operation of unit o is a call, one each word that the function may return
-abbrev pub TellRuns : Parts → (ℕ → ℕ → ℕ → List ℕ → Option ℕ) → Owned → List What → Type 0
-TellRuns W returns o hints =
-    Tell hints None None × ((f n : ℕ) → function_of (op_at W o.number o.carried.position) ≡ Some f → IsReturned (returns f o.number o.carried.acc o.carried.keys) n → Tell hints None (Some n))
+-- one of the hints returns each word that the next event of unit o may, if it is a call, and else one returns none
+abbrev pub TellRuns : Parts → (ℕ → ℕ → ℕ → List ℕ → Option ℕ) → ℕ → Mark → Owned → List What → Type 0
+TellRuns W returns s m o hints = (word : Option ℕ) → MayReturn W returns s m o word → Tell hints None word
 
 -- one of the hints visits each pool that may be next in the frame's round
 abbrev pub TellVisits : Parts → List OrderShape → Frame → List What → Type 0

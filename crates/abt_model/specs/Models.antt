@@ -11,7 +11,7 @@ use Rattle.abt_machine.specs.Sound.{Sound, frames_of}
 use Rattle.abt_machine.specs.State.{Frame, State, Stream}
 use Rattle.abt_machine.specs.Values.{Held, object_of, part_of}
 use Rattle.abt_calls.specs.Asking.{IsSite}
-use Rattle.abt_replay.specs.Objects.{ObjectsValue, object_at}
+use Rattle.abt_replay.specs.Objects.{HasPlaces, ObjectsValue, object_at}
 use Rattle.abt_model.specs.Lists.{AreNumbered}
 
 -- what each stream holds, in order of number, and the objects
@@ -19,10 +19,11 @@ pub record ModelValue : Type 0 where
   pub lanes : List Held
   pub objects : ObjectsValue
 
--- what the streams hold, and the objects, are those of state S
+-- what the streams hold, and the objects, are those of state S, and there are no others
 pub record StandsFor (W : Parts) (S : State) (model : ModelValue) : Type 0 where
   pub lanes : AreNumbered W.streams (part_of W S) model.lanes
   pub objects : (x : Site) → IsSite W x → object_at model.objects x ≡ object_of W S x
+  pub places : HasPlaces W model.objects
 
 -- no frame has begun more than n rounds
 abbrev pub HasBegun : ℕ → Stream → Type 0

@@ -1,18 +1,20 @@
 //! What a stream may do next.
 
-ghost use Rattle.std.specs.Prelude.{ℕ, ◌≡◌, ◌<◌, ◌%◌, ◌^◌, [], ◌∷◌, IfOk, MatchOption, None, Some, length, slice_get};
+ghost use Rattle.std.specs.Prelude.{ℕ, ◌≡◌, ◌<◌, ◌%◌, ◌^◌, [], ◌∷◌, IfOk, MatchOption, None, Some, length};
 ghost use Rattle.abt_machine.specs.Rounds.{OrdersStored};
 ghost use Rattle.abt_machine.specs.Sound.{IsUnderWay};
 ghost use Rattle.abt_machine.specs.Stored.{CallsStored};
 ghost use Rattle.abt_machine.specs.Valid.{IsValid};
-ghost use Rattle.abt_machine.specs.Workloads.{op_at};
-ghost use Rattle.abt_model.specs.Choices.{Give};
-ghost use Rattle.abt_model.specs.Hints.{AreHints, Tell, TellCall, TellRuns, TellUnseen, TellVisits, function_of};
+ghost use Rattle.abt_model.specs.Choices.{AreChoicesOf, Give};
+ghost use Rattle.abt_model.specs.Hints.{MayReturnAny, Tell, TellCall, TellRuns, TellUnseen, TellVisits};
 ghost use Rattle.abt_model.specs.Stored.{stored_with};
 ghost use Rattle.abt_model.specs.Turns.{CanMove};
+ghost use Rattle.abt_plans.specs.Marks.{mark_of};
 
+use crate::hints::called_next;
 use crate::visits::{lists, next_pool};
-use abt_machine::{Body, Op, OrderShape, PoolNo, Returned, StreamNo, UnitNo, Want, What, Workload};
+use abt_machine::{OrderShape, PoolNo, Returned, StreamNo, UnitNo, Want, What, Workload};
+use abt_plans::Mark;
 use abt_replay::{Frame, Lane, Next, Unit};
 use abt_work::Work;
 use std::alloc::Global;
@@ -38,8 +40,9 @@ pub(crate) fn choices_of<P: Work>(
     requires valid { IsValid w.now }
     requires stored { OrdersStored w.now z.now }
     requires calls { CallsStored w.now (P.count work.now) }
+    requires stream { s.0 < w.now.streams }
     requires lane { CanMove w.now z.now lane.now }
-    ensures { IfOk result (Give (AreHints w.now (stored_with z.now (P.returns work.now)) s.0 lane.now) (P.returns work.now)) }
+    ensures { IfOk result (AreChoicesOf w.now (stored_with z.now (P.returns work.now)) s.0 lane.now) }
 {
     if !lane.tray().is_empty() {
         return Ok(Choices::These(plain(alloc)?));
@@ -48,7 +51,7 @@ pub(crate) fn choices_of<P: Work>(
         return Ok(Choices::These(plain(alloc)?));
     }
     if let Some(unit) = lane.hand() {
-        return runs(alloc, w, work, unit);
+        return runs(alloc, w, work, s, lane.mark(), unit);
     }
     if lane.top().empty && lane.is_stacked() {
         return Ok(Choices::These(plain(alloc)?));
@@ -73,13 +76,23 @@ fn one(alloc: Global, hint: What) -> Result<Vec<What>, Want>
     Ok(hints)
 }
 
-// What the unit in hand may do next: a hint that returns no word, and if its next operation is a call, one that returns its word.
-fn runs<P: Work>(alloc: Global, w: &Workload, work: &P, unit: &Unit) -> Result<Choices, Want>
+// What the unit in the hand of stream `s` may do next: a hint that returns what its function returns, if it is to call one, and
+// else one that returns no word.
+fn runs<P: Work>(
+    alloc: Global,
+    w: &Workload,
+    work: &P,
+    s: StreamNo,
+    mark: Mark,
+    unit: &Unit,
+) -> Result<Choices, Want>
+    requires valid { IsValid w.now }
+    requires stream { s.0 < w.now.streams }
     requires calls { CallsStored w.now (P.count work.now) }
     requires number { unit.now.number < length w.now.units }
-    ensures { IfOk result (Give (TellRuns w.now (P.returns work.now) unit.now) (P.returns work.now)) }
+    ensures { IfOk result (Give (TellRuns w.now (P.returns work.now) s.0 (mark_of mark) unit.now) (MayReturnAny w.now (P.returns work.now) s.0 (mark_of mark) unit.now)) }
 {
-    match function_at(w, unit) {
+    match called_next(w, s, mark, unit) {
         None => Ok(Choices::These(plain(alloc)?)),
         Some(function) => calls(alloc, work, function, unit),
     }
@@ -88,14 +101,13 @@ fn runs<P: Work>(alloc: Global, w: &Workload, work: &P, unit: &Unit) -> Result<C
 // What a unit that is to call the function may do next.
 fn calls<P: Work>(alloc: Global, work: &P, function: u32, unit: &Unit) -> Result<Choices, Want>
     requires stored { function < P.count work.now }
-    ensures { IfOk result (Give (TellCall (P.returns work.now) function unit.now) (P.returns work.now)) }
+    ensures { IfOk result (Give (TellCall (P.returns work.now) function unit.now) (λ f. (f ≡ function) × (P.returns work.now f unit.now.number unit.now.carried.acc unit.now.carried.keys ≡ None))) }
 {
     match returned(work, function, unit) {
         None => Ok(Choices::AnyWord(function)),
         Some(value) => {
-            let mut hints = plain(alloc)?;
-            hints.push(What::Call(unit.number(), unit.position(), Returned::new(value)))?;
-            Ok(Choices::These(hints))
+            let hint = What::Call(unit.number(), unit.position(), Returned::new(value));
+            Ok(Choices::These(one(alloc, hint)?))
         }
     }
 }
@@ -116,27 +128,6 @@ fn returned<P: Work>(work: &P, function: u32, unit: &Unit) -> Option<u64>
         return None;
     }
     Some(word)
-}
-
-// The function that the unit's next operation calls, if it is a call.
-fn function_at(w: &Workload, unit: &Unit) -> Option<u32>
-    requires { unit.now.number < length w.now.units }
-    ensures { result ≡ function_of (op_at w.now unit.now.number unit.now.carried.position) }
-{
-    match &w.unit(unit.number()).body {
-        Body::Sched(_) => None,
-        Body::Ult(ops) | Body::Task(ops) => function_in(ops.items(), unit.position()),
-    }
-}
-
-// The function that the operation at that position calls, if it is a call.
-fn function_in(ops: &[Op], at: u32) -> Option<u32>
-    ensures { result ≡ function_of (slice_get ops.now at) }
-{
-    match ops.get(at as usize) {
-        Some(Op::Call(function)) => Some(*function),
-        _ => None,
-    }
 }
 
 // Hints for visits of the pools that may be next in the frame's round. `z` has the shapes of the stored orders.

@@ -4,7 +4,9 @@
 mod choices;
 mod copies;
 mod ends;
+mod hints;
 mod model;
+mod orders;
 mod pictures;
 mod starts;
 mod turns;
@@ -13,4 +15,5 @@ mod visits;
 pub use choices::Choices;
 pub use copies::models_are_told;
 pub use model::Model;
+pub use orders::shapes;
 pub use pictures::runs_say_own_words;

@@ -1,10 +1,12 @@
 //! All streams with the objects that they share.
 
-ghost use Rattle.std.specs.Prelude.{ℕ, ◌≡◌, ◌<◌, ◌-◌, ◌^◌, ◌↔◌, IfOk, IsTrue};
+ghost use Rattle.std.specs.Prelude.{ℕ, ◌≡◌, ◌<◌, ◌-◌, ◌^◌, ◌↔◌, IfOk, IsTrue, length};
 ghost use Rattle.abt_model.specs.Choices.{AreChoices};
-ghost use Rattle.abt_model.specs.Hints.{IsMade};
+ghost use Rattle.abt_model.specs.Hints.{IsMade, TellsSome};
 ghost use Rattle.abt_model.specs.Models.{MayBeDone, IsAfter, StandsFor};
 ghost use Rattle.abt_model.specs.Pictures.{SaysWords, ShowsUnits};
+ghost use Rattle.abt_machine.specs.declared.workload.Parts.{Parts};
+ghost use Rattle.abt_machine.specs.Next.{StepDue, due};
 ghost use Rattle.abt_machine.specs.Outcomes.{AllEnded, Quiet};
 ghost use Rattle.abt_machine.specs.Rounds.{OrdersStored};
 ghost use Rattle.abt_machine.specs.Sound.{Sound};
@@ -16,10 +18,11 @@ ghost use Rattle.abt_machine.specs.Valid.{IsValid};
 
 use crate::choices::{Choices, choices_of};
 use crate::ends::{are_empty, are_idle, are_over};
+use crate::hints::{hint_of, is_to_step};
 use crate::pictures::{blanks, place_desks, place_lanes, place_pools, place_things};
 use crate::starts::{lanes, objects};
 use crate::turns::move_as;
-use abt_machine::{OrderShape, StreamNo, Want, What, Workload};
+use abt_machine::{OrderShape, PoolNo, StreamNo, Want, What, Workload};
 use abt_replay::{Lane, Objects};
 use abt_report::Picture;
 use abt_work::Work;
@@ -49,6 +52,13 @@ impl Model {
         let objects = objects(alloc, w)?;
         let lanes = lanes(alloc, w)?;
         Ok(Model { lanes, objects })
+    }
+
+    /// The objects.
+    pub fn objects(&self) -> &Objects
+        ensures { result.now ≡ self.now.objects }
+    {
+        &self.objects
     }
 
     /// The picture of the units that streams and objects hold, in order of number. Out of memory is the only error.
@@ -103,6 +113,45 @@ impl Model {
         ensures { IfOk result (AreChoices w.now (stored_with z.now (P.returns work.now)) self.now s.0) }
     {
         choices_of(alloc, &self.lanes[s.0 as usize], w, z, work, s)
+    }
+
+    /// A hint that tells an event of stream `s` that may come: a round visits the first of the pools `wanted` that it may visit
+    /// next, or the first that its scheduler lists if it may visit none of them, and a call returns what its function returns.
+    /// `z` has the shapes of the stored orders.
+    pub fn hint<P: Work>(
+        &self,
+        w: &Workload,
+        z: &[OrderShape],
+        work: &P,
+        s: StreamNo,
+        wanted: &[PoolNo],
+    ) -> What
+        requires valid { IsValid w.now }
+        requires stored { OrdersStored w.now z.now }
+        requires calls { CallsStored w.now (P.count work.now) }
+        requires stream { s.0 < w.now.streams }
+        requires state { (n : ℕ) × (n < 2 ^ 64 - 1) × (S : State) × IsAfter w.now (stored_with z.now (P.returns work.now)) n S × StandsFor w.now S self.now }
+        ensures { (n : ℕ) (S : State) → IsAfter w.now (stored_with z.now (P.returns work.now)) n S → StandsFor w.now S self.now → TellsSome w.now (stored_with z.now (P.returns work.now)) S s.0 result }
+    {
+        hint_of(&self.lanes[s.0 as usize], w, z, work, s, wanted)
+    }
+
+    /// Whether stream `s` is to make a step.
+    pub fn has_step(&self, w: &Workload, s: StreamNo) -> bool
+        requires valid { IsValid w.now }
+        requires stream { s.0 < w.now.streams }
+        requires state { (Z : Stored) × (S : State) × Sound w.now Z S × StandsFor w.now S self.now }
+        ensures { (S : State) → StandsFor w.now S self.now → IsTrue result ↔ (due w.now S s.0 ≡ StepDue) }
+    {
+        is_to_step(&self.lanes[s.0 as usize], w, s)
+    }
+
+    /// Whether the last round of the top frame of stream `s` ended empty.
+    pub fn has_empty_round(&self, s: StreamNo) -> bool
+        requires stream { s.0 < length self.now.lanes }
+        ensures { (W : Parts) (S : State) → StandsFor W S self.now → s.0 < W.streams → result ≡ (S.stream s.0).top.empty }
+    {
+        self.lanes[s.0 as usize].top().empty
     }
 
     /// Makes the next event of stream `s`; if a round is due, at the pool that the hint visits, and if a call is, one that

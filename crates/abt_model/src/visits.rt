@@ -46,8 +46,8 @@ fn visited(what: &What) -> Option<PoolNo>
     }
 }
 
-// Whether the pool may be the next of the frame's round.
-fn may_visit(w: &Workload, z: &[OrderShape], frame: &Frame, p: PoolNo) -> bool
+/// Whether the pool may be the next of the frame's round.
+pub(crate) fn may_visit(w: &Workload, z: &[OrderShape], frame: &Frame, p: PoolNo) -> bool
     requires valid { IsValid w.now }
     requires stored { OrdersStored w.now z.now }
     requires under_way { IsUnderWay w.now z.now frame.now }

@@ -24,7 +24,7 @@ use Rattle.abt_machine.specs.Values.{Held, Owned, object_of}
 use Rattle.abt_machine.specs.Workloads.{op_at}
 use Rattle.abt_calls.specs.Asking.{IsSite}
 use Rattle.abt_unit.specs.Local.{after_local, with_carried}
-use Rattle.abt_replay.specs.Objects.{Called, ObjectsValue, object_at}
+use Rattle.abt_replay.specs.Objects.{Called, HasPlaces, ObjectsValue, object_at}
 
 -- unit o of the tray goes home
 pub record Woken (before : ObjectsValue) (o : Owned) (made : What) (after : ObjectsValue) : Type 0 where
@@ -95,9 +95,9 @@ Operated W s a o old before c new after = (heard : Option Heard) × Performs old
 abbrev pub MakesEvent : Parts → Stored → ℕ → Held → ObjectsValue → What → Held → ObjectsValue → Type 0
 MakesEvent W Z s old before made new after = (heard : Option Heard) × Steps W Z s old made heard new × Heeds before heard after
 
--- the objects are those of some state
+-- the objects are those of some state, and no others
 abbrev pub AreObjects : Parts → ObjectsValue → Type 0
-AreObjects W objects = (S : State) × ((x : Site) → IsSite W x → object_at objects x ≡ object_of W S x)
+AreObjects W objects = (S : State) × ((x : Site) → IsSite W x → object_at objects x ≡ object_of W S x) × HasPlaces W objects
 
 -- what the stream holds, with unit o in hand
 abbrev pub in_hand : Owned → Held → Held

@@ -1,7 +1,8 @@
 -- All objects by their sites, and what a call changes among them.
-use Rattle.std.specs.Prelude.{ℕ, ◌≡◌, ◌==◌, Bool, false, List, slice_get, Option, Some, None}
+use Rattle.std.specs.Prelude.{ℕ, ◌≡◌, ◌==◌, Bool, false, List, length, slice_get, Option, Some, None}
 use Rattle.abt_machine.specs.declared.events.Site.{Site}
 use Rattle.abt_machine.specs.declared.events.Site.TheVariants as site
+use Rattle.abt_machine.specs.declared.workload.Parts.{Parts}
 use Rattle.abt_machine.specs.Acts.{Act, Answer}
 use Rattle.abt_machine.specs.Gives.{SiteGives}
 use Rattle.abt_machine.specs.Sites.{place_number}
@@ -49,7 +50,20 @@ same_place (site.Desk u) (site.Desk v) = u.0 == v.0
 same_place (site.Desk u) y = false
 same_place x y = is_slot (place_number x) (slot_of y)
 
+-- there are as many pools, desks and places of declared objects in both
+pub record AreAsMany (one two : ObjectsValue) : Type 0 where
+  pub pools : length one.pools ≡ length two.pools
+  pub desks : length one.desks ≡ length two.desks
+  pub slots : length one.slots ≡ length two.slots
+
+-- there is a place for each pool, each unit's desk and each object that the workload declares, and no other
+pub record HasPlaces (W : Parts) (objects : ObjectsValue) : Type 0 where
+  pub pools : length objects.pools ≡ length W.pools
+  pub desks : length objects.desks ≡ length W.units
+  pub slots : length objects.slots ≡ length W.objects
+
 -- the object at the site has answered the act with this, and all others are as they were
 pub record Called (old : ObjectsValue) (x : Site) (act : Act) (answer : Answer) (new : ObjectsValue) : Type 0 where
   pub gives : SiteGives (object_at old x) act answer (object_at new x)
   pub others : (y : Site) → same_place x y ≡ false → object_at new y ≡ object_at old y
+  pub many : AreAsMany new old

@@ -63,6 +63,13 @@ impl Barrier {
         }
     }
 
+    /// The number of parties.
+    pub fn size(&self) -> u32
+        ensures { result ≡ self.now.size }
+    {
+        self.size
+    }
+
     /// The units that wait, in order of arrival.
     pub fn waiters(&self) -> &VecDeque<Unit>
         ensures { result.now.items ≡ self.now.waiters }

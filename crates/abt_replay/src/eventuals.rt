@@ -185,6 +185,20 @@ impl Future {
         }
     }
 
+    /// How many compartments there are.
+    pub fn size(&self) -> u32
+        ensures { result ≡ self.now.size }
+    {
+        self.size
+    }
+
+    /// How many compartments are filled.
+    pub fn filled(&self) -> u32
+        ensures { result ≡ self.now.filled }
+    {
+        self.filled
+    }
+
     /// The units that wait, in order of arrival.
     pub fn waiters(&self) -> &VecDeque<Unit>
         ensures { result.now.items ≡ self.now.waiters }

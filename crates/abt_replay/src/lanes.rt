@@ -3,6 +3,7 @@
 ghost use Rattle.std.specs.Prelude.{◌≡◌, ◌<◌, ◌-◌, ◌^◌, ◌≢◌, ◌↔◌, [], ◌∷◌, IfNone, IfOk, IfSome, IsTrue, List, None, Some, length, option_copied, option_map};
 ghost use Rattle.abt_calls.specs.Allowed.{Allows};
 ghost use Rattle.abt_calls.specs.Starts.{start_part};
+ghost use Rattle.abt_plans.specs.Marks.{mark_of};
 ghost use Rattle.abt_replay.specs.Events.{AreObjects, CallsBy, Ends, Entered, Leaves, Looks, Runs, Stepped, Visits, Woken};
 ghost use Rattle.abt_replay.specs.Objects.{object_at};
 ghost use Rattle.abt_replay.specs.Unnumbered.{unnumbered_held};
@@ -124,6 +125,13 @@ impl Lane {
             tray: VecDeque::new(alloc),
             framed: Vec::new(alloc),
         }
+    }
+
+    /// What is to become of the unit in hand.
+    pub fn mark(&self) -> Mark
+        ensures { mark_of result ≡ self.now.own.mark }
+    {
+        self.mark
     }
 
     /// The frame of the scheduler that runs.

@@ -6,6 +6,7 @@ ghost use Rattle.abt_replay.specs.Acts.{act_of, answer_of};
 ghost use Rattle.abt_machine.specs.Acts as asked;
 ghost use Rattle.abt_machine.specs.Monitors.{MonitorGives, handed_over};
 ghost use Rattle.abt_machine.specs.Queues.{first};
+ghost use Rattle.abt_machine.specs.declared.numbers.UnitNo.{UnitNo};
 
 use crate::acts::{Act, Answer};
 use crate::keys::{Keyed, write_list, write_queue};
@@ -119,6 +120,13 @@ impl Monitor {
             waiters: VecDeque::new(alloc),
             conds: lists,
         })
+    }
+
+    /// The unit that owns the mutex, if one does.
+    pub fn owner(&self) -> Option<UnitNo>
+        ensures { option_map (λ (owner : UnitNo). owner.0) result ≡ self.now.owner }
+    {
+        self.owner
     }
 
     /// The units that wait for the mutex, in order of arrival.

@@ -1,11 +1,12 @@
 //! Reader-writer locks, with the number that they guard.
 
-ghost use Rattle.std.specs.Prelude.{◌≡◌, [], ◌∷◌, IfNone, IfOk, IfSome, IsTrue, None, replicate, slice_set};
+ghost use Rattle.std.specs.Prelude.{◌≡◌, [], ◌∷◌, IfNone, IfOk, IfSome, IsTrue, None, option_map, replicate, slice_set};
 ghost use Rattle.abt_calls.specs.Allowed.{RwLockAllows};
 ghost use Rattle.abt_replay.specs.Acts.{act_of, answer_of};
 ghost use Rattle.abt_machine.specs.declared.events.Wish.TheVariants as wish;
+ghost use Rattle.abt_machine.specs.declared.numbers.UnitNo.{UnitNo};
 ghost use Rattle.abt_machine.specs.Acts as asked;
-ghost use Rattle.abt_machine.specs.Holders.{holds, is_free, writes};
+ghost use Rattle.abt_machine.specs.Holders.{holds, is_free, reads, writes};
 ghost use Rattle.abt_machine.specs.RwLocks.{RwLockGives, after_readers, all_reading, first_readers, left_by, may_read, passed_on, waiting, wants_to_read, woken};
 
 use crate::acts::{Act, Answer};
@@ -102,6 +103,27 @@ impl RwLock {
         &self.waiters
     }
 
+    /// The unit that writes, if one does.
+    pub fn writer(&self) -> Option<UnitNo>
+        ensures { option_map (λ (writer : UnitNo). writer.0) result ≡ self.now.lock.writer }
+    {
+        self.writer
+    }
+
+    /// Whether the unit reads.
+    pub fn reads(&self, who: UnitNo) -> bool
+        ensures { result ≡ reads who.0 self.now.lock }
+    {
+        self.counts.of(who) > 0
+    }
+
+    /// Whether the unit wanted to read when it last came to wait.
+    pub fn wants_to_read(&self, who: UnitNo) -> bool
+        ensures { result ≡ wants_to_read self.now.lock.wishes who.0 }
+    {
+        wants_to_read(&self.wishes, who)
+    }
+
     /// Answers the act.
     pub(crate) fn answer(&mut self, act: Act) -> Result<Answer, Want>
         requires allowed { RwLockAllows (act_of act) }
@@ -192,7 +214,7 @@ impl RwLock {
     fn holds(&self, who: UnitNo) -> bool
         ensures { result ≡ holds who.0 self.now.lock }
     {
-        self.is_writer(who) || self.counts.of(who) > 0
+        self.is_writer(who) || self.reads(who)
     }
 
     // No unit writes, and none reads.
@@ -206,7 +228,7 @@ impl RwLock {
     fn may_read(&self, who: UnitNo) -> bool
         ensures { result ≡ may_read who.0 self.now }
     {
-        self.counts.of(who) > 0 || (self.writer.is_none() && self.waiters.is_empty())
+        self.reads(who) || (self.writer.is_none() && self.waiters.is_empty())
     }
 
     // The unit waits, and wants that.

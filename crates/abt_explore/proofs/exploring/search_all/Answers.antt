@@ -1,5 +1,5 @@
 -- A whole search.
-use Rattle.std.proofs.Common.{◌∙◌, Option, None, Some, subst, sym}
+use Rattle.std.proofs.Common.{◌≡◌, ◌∙◌, ◌+◌, Option, None, Some, arith, length, subst, sym}
 use Rattle.abt_machine.specs.Rounds.{OrdersStored}
 use Rattle.abt_outcomes.proofs.Stored.{orders-stored}
 use Rattle.abt_model.specs.Stored.{stored_with}
@@ -10,7 +10,7 @@ use Rattle.abt_explore.proofs.Finding.{are-ends, finished-explored, met-taken, s
 use Rattle.abt_explore.proofs.exploring.search_all.Goals as goal
 
 pub loop-states-init : goal.loop-states-init
-loop-states-init g c = let begun = c.in_ok-search.ensures (stored_with c.args.z.now (g.P.Work.returns c.args.work.now)) in record { begins = begun.0; searching = begun.1 }
+loop-states-init g c = let begun = c.in_ok-search.ensures (stored_with c.args.z.now (g.P.Work.returns c.args.work.now)) in record { begins = begun.0; count = omega (arith, begun.2); searching = begun.1 }
 
 pub returns-in-None : goal.returns-in-None
 returns-in-None g c =
@@ -19,9 +19,11 @@ returns-in-None g c =
     let old = c.loop-states.search in
     let new = c.take.new.self in
     let stored : OrdersStored W Z.orders = orders-stored W Z c.known.ensures c.requires.orders in
-    let taken : Takes old None new = subst (λ (o : Option Found). Takes old o new) c.in-None.is c.take.ensures in
-    subst (λ v. AreEnds W Z v.items) (sym (c.into_ends-ends.ensures ∙ taken.1))
-    (are-ends W Z c.known.ensures stored c.requires.keeps_order old c.loop-states.invariant.searching taken.0 c.loop-states.invariant.begins)
+    let taken : Takes old None new = subst (λ (o : Option Found). Takes old o new) c.in-None.is c.take.ensures in (
+      subst (λ v. AreEnds W Z v.items) (sym (c.into_ends-ends.ensures ∙ taken.1))
+          (are-ends W Z c.known.ensures stored c.requires.keeps_order old c.loop-states.invariant.searching taken.0 c.loop-states.invariant.begins),
+      omega (arith, c.loop-states-test.true),
+    )
 
 pub expand-requires-clause-stored : goal.expand-requires-clause-stored
 expand-requires-clause-stored g c = orders-stored c.args.w.now (stored_with c.args.z.now (g.P.Work.returns c.args.work.now)) c.known.ensures c.requires.orders
@@ -53,4 +55,5 @@ returns g c =
     let W = c.args.w.now in
     let Z = stored_with c.args.z.now (g.P.Work.returns c.args.work.now) in
     let stored : OrdersStored W Z.orders = orders-stored W Z c.known.ensures c.requires.orders in
-    finished-explored W Z c.known.ensures stored c.requires.keeps_order c.loop-states.search c.loop-states.invariant.searching c.loop-states.invariant.begins c.finished.result c.finished.ensures
+    let count : length c.loop-states.search.paths ≡ c.args.most + length c.loop-states.search.waiting.items = omega (arith, c.loop-states.invariant.count, c.loop-states-test.false, c.loop-states.auto.states-end) in
+    finished-explored W Z c.known.ensures stored c.requires.keeps_order c.loop-states.search c.loop-states.invariant.searching c.loop-states.invariant.begins c.args.most count c.finished.result c.finished.ensures

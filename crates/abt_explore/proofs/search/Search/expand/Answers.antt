@@ -1,7 +1,8 @@
 -- One model.
 use Rattle.std.proofs.Common.{ℕ, ◌<◌, Some}
 use Rattle.abt_model.specs.Stored.{stored_with}
-use Rattle.abt_explore.specs.Searches.{MayReturnAny, SeesNext}
+use Rattle.abt_explore.specs.Explored.{MayCallAny}
+use Rattle.abt_explore.specs.Searches.{SeesNext}
 use Rattle.abt_explore.proofs.Finding.{any-if, done-if, listed-grown, looked, searching-expanded}
 use Rattle.abt_explore.proofs.Searching.{grows-on}
 use Rattle.abt_explore.proofs.search.Search.expand.Goals as goal
@@ -36,9 +37,9 @@ returns g c =
     let after = c.in_ok-any.ensures in
     record {
       grows = grows-on old mid new before.grows after.grows;
-      searching = done-if (MayReturnAny (g.P.Work.returns c.args.work.now)) any after.all
+      searching = done-if (MayCallAny W Z) any after.all
           (λ (next : (s : ℕ) → s < W.streams → SeesNext W Z new found.model s).
           searching-expanded W Z c.requires.valid c.requires.stored c.requires.keeps_order new found.model after.searching
           (record { next = next; listed = listed-grown W Z mid new found.model after.grows before.listed }));
-      any = any-if ((s : ℕ) → s < W.streams → SeesNext W Z new found.model s) (MayReturnAny (g.P.Work.returns c.args.work.now)) any after.all;
+      any = any-if ((s : ℕ) → s < W.streams → SeesNext W Z new found.model s) (MayCallAny W Z) any after.all;
     }

@@ -1,7 +1,8 @@
 -- All that may come of all streams.
 use Rattle.std.proofs.Common.{ℕ, MatchOption, Option, below_more, subst}
 use Rattle.abt_model.specs.Stored.{stored_with}
-use Rattle.abt_explore.specs.Searches.{MayReturnAny, SeesNext}
+use Rattle.abt_explore.specs.Explored.{MayCallAny}
+use Rattle.abt_explore.specs.Searches.{SeesNext}
 use Rattle.abt_explore.proofs.Following.{next-grown}
 use Rattle.abt_explore.proofs.Searching.{grows-on}
 use Rattle.abt_explore.proofs.search.Search.expand_streams.Goals as goal
@@ -16,7 +17,7 @@ loop-s-preserved g c =
     let before = c.loop-s.invariant in
     let grows = c.in_ok-function.ensures.grows in
     let here : SeesNext W Z new found.model c.loop-s.s =
-    subst (λ (any : Option ℕ). MatchOption any (SeesNext W Z new found.model c.loop-s.s) (MayReturnAny (g.P.Work.returns c.args.work.now))) c.in-None.is c.in_ok-function.ensures.all in
+    subst (λ (any : Option ℕ). MatchOption any (SeesNext W Z new found.model c.loop-s.s) (MayCallAny W Z)) c.in-None.is c.in_ok-function.ensures.all in
     record {
       grows = grows-on c.args.self.now old new before.grows grows;
       met = grows.met W Z found before.met;

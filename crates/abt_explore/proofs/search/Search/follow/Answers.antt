@@ -6,7 +6,8 @@ use Rattle.abt_model.specs.Hints.{IsMade}
 use Rattle.abt_model.specs.Models.{IsAfter, ModelValue, StandsFor}
 use Rattle.abt_model.specs.Stored.{stored_with}
 use Rattle.abt_explore.specs.Searches.{Meets, journal_to}
-use Rattle.abt_explore.specs.Unnumbered.{unnumbered_model, unnumbered_state}
+use Rattle.abt_model.specs.Keys.{unnumbered_model}
+use Rattle.abt_explore.specs.Unnumbered.{unnumbered_state}
 use Rattle.abt_explore.proofs.Finding.{met-after}
 use Rattle.abt_explore.proofs.Following.{none-after, on-ok, searching-after, some-after}
 use Rattle.abt_explore.proofs.Searching.{grows-met, grows-same}

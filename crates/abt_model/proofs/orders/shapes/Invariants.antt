@@ -1,6 +1,6 @@
 use Rattle.std.proofs.Common.{◌≡◌, take}
 use Rattle.abt_order.specs.Stored.{shapes_of}
-use Rattle.abt_explore.proofs.exploring.shapes.Given as goal
+use Rattle.abt_model.proofs.orders.shapes.Given as goal
 
 abbrev pub invariant-loop-order : goal.invariant-loop-order
 invariant-loop-order g l = l.shapes.items ≡ shapes_of (take l.order-index l.orders)
