@@ -251,7 +251,12 @@ pub(crate) static FREE: Case = Case {
 };
 
 // The text of the run's first `kept` lines, and of those of `rest`.
-fn text_of(alloc: Global, run: &str, kept: usize, rest: &str) -> Result<String, AllocError> {
+pub(crate) fn text_of(
+    alloc: Global,
+    run: &str,
+    kept: usize,
+    rest: &str,
+) -> Result<String, AllocError> {
     let mut text = String::new(alloc);
     for line in run.split(", ").take(kept) {
         writeln!(text, "{line}")?;

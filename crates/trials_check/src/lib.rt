@@ -9,3 +9,5 @@ mod checks;
 mod sites;
 #[cfg(test)]
 mod tables;
+#[cfg(test)]
+mod waits;

@@ -1,0 +1,5 @@
+mod Following
+mod Holding
+mod Listing
+mod Numbers
+mod Walking

@@ -1,0 +1,5 @@
+pub mod Cycles
+pub mod Held
+pub mod Replays
+pub mod Texts
+pub mod Waits
