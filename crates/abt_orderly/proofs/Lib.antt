@@ -1,0 +1,14 @@
+mod Before
+mod Entries
+mod Keeping
+mod Listed
+mod Looking
+mod Meeting
+mod Needing
+mod Ordering
+mod Placed
+mod Ranks
+mod Scanned
+mod Standing
+mod Waits
+mod Work

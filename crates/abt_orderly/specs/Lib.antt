@@ -1,0 +1,4 @@
+pub mod Listing
+pub mod Needs
+pub mod Passing
+pub mod Scanning
