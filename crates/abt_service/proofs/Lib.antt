@@ -1,7 +1,10 @@
 pub mod Giving
 pub mod Going
 pub mod Handing
+pub mod Locking
+pub mod Pooling
 pub mod Reading
 pub mod Serving
+pub mod Taking
 pub mod Turns
 pub mod Waking

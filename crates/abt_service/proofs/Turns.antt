@@ -21,7 +21,7 @@ use Rattle.abt_service.specs.Laws.{ServedInOrder, ServesMutex, WaitersKeepOrder,
 use Rattle.abt_service.proofs.Serving.{events-serve}
 
 -- what is dropped from a list that goes on is dropped from its front first
-drop-front : (m : ℕ) (us vs : List ℕ) → (ws : List ℕ) × (drop m (us ++ vs) ≡ drop m us ++ ws)
+pub drop-front : (m : ℕ) (us vs : List ℕ) → (ws : List ℕ) × (drop m (us ++ vs) ≡ drop m us ++ ws)
 drop-front zero us vs = (vs, refl)
 drop-front (suc m) [] vs = (drop (suc m) vs, refl)
 drop-front (suc m) (u ∷ us) vs = drop-front m us vs

@@ -1,0 +1,11 @@
+pub mod AdderSteps
+pub mod Calm
+pub mod Events
+pub mod FirstSteps
+pub mod Going
+pub mod Moving
+pub mod Programs
+pub mod Runs
+pub mod Stages
+pub mod Steps
+pub mod Sums

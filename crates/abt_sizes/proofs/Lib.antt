@@ -1,0 +1,4 @@
+pub mod Falling
+pub mod Rows
+pub mod Runs
+pub mod Sizes
