@@ -28,7 +28,7 @@ use abt_machine::{Event, Outcome, Want, Workload};
 use abt_order::StoredOrder;
 use abt_report::Picture;
 use abt_stream::Stream;
-use abt_waves::run_wave;
+use abt_waves::{Starts, run_wave};
 use abt_work::Work;
 use std::alloc::Global;
 use std::sync::Wait;
@@ -64,7 +64,7 @@ pub(crate) fn start<'w>(
     })
 }
 
-/// One more wave.
+/// One more wave; `starts` goes from wave to wave.
 pub(crate) fn advance<'w, R: Threads + Wait + Sync, P: Work + Sync>(
     rt: &'w R,
     alloc: Global,
@@ -72,6 +72,7 @@ pub(crate) fn advance<'w, R: Threads + Wait + Sync, P: Work + Sync>(
     lives: &[Life],
     orders: &[StoredOrder],
     work: &P,
+    starts: &Starts,
     journey: Journey<'w>,
 ) -> Result<Journey<'w>, Want>
     requires lives { AreLives w.now lives.now }
@@ -92,7 +93,9 @@ pub(crate) fn advance<'w, R: Threads + Wait + Sync, P: Work + Sync>(
         from: journal.len() as u64,
         streams: Numbers::new(numbers),
     })?;
-    let (objects, streams) = run_wave(rt, alloc, w, orders, work, objects, streams, &flags)?;
+    let (objects, streams) = run_wave(
+        rt, alloc, w, orders, work, objects, streams, &flags, starts,
+    )?;
     append_wave(alloc, &mut journal, &streams, &lengths)?;
     Ok(Journey {
         objects,
@@ -120,9 +123,10 @@ pub(crate) fn go<'w, R: Threads + Wait + Sync, P: Work + Sync>(
     ensures some_wave { IfOk result (λ ended. ended.0.waves.items ≢ []) }
     ensures ended { IfOk result (λ ended. EndsOn w.now lives.now steps ended.0.journal.items ended.1) }
 {
+    let starts = Starts::new();
     let mut journey = journey;
     'waves: for _ in rt.forever() {
-        journey = advance(rt, alloc, w, lives, orders, work, journey)?;
+        journey = advance(rt, alloc, w, lives, orders, work, &starts, journey)?;
         match outcome_on(w, lives, &journey.objects, &journey.streams, steps) {
             Some(outcome) => return Ok((journey, outcome)),
             None => {}

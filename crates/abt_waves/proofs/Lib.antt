@@ -4,4 +4,5 @@ pub mod Fleets
 pub mod Going
 pub mod Lasts
 pub mod Rejoining
+pub mod Staying
 pub mod Waving

@@ -3,6 +3,7 @@ pub mod Fleets
 pub mod Jobs
 pub mod Locks
 pub mod SplitLocks
+pub mod Staying
 pub mod Stops
 pub mod Storing
 pub mod Tallies

@@ -3,17 +3,22 @@
 ghost use Rattle.std.specs.Prelude.{◌≡◌, ◌≤◌, ℕ, IfOk, List, Option, length};
 ghost use Rattle.abt_machine.specs.declared.events.Outcome.{Outcome};
 ghost use Rattle.abt_machine.specs.Stored.{CallsStored, Stored};
+ghost use Rattle.abt_order.specs.Stored.{stored_of};
+ghost use Rattle.abt_commons.specs.Held.{clock_at};
+ghost use Rattle.abt_commons.specs.Splits.{own_lock};
 ghost use Rattle.abt_drain.specs.Looks.{AreStreams, EndedWith};
 ghost use Rattle.abt_waves.specs.Ends.{LeavesWaves};
 ghost use Rattle.abt_waves.specs.Storing.{stored_by};
 ghost use Rattle.abt_waves.specs.Waves.{HasEnded, IsFleetOf};
 
-use crate::locks::{Locked, Locking, Orders};
+use crate::alone::{find_alone, go_alone};
+use crate::locks::{Locked, Locking, Orders, StoredOrders};
 use crate::watch::Starts;
 use crate::wave::sail;
-use abt_commons::Objects;
+use abt_commons::{Objects, Split, SplitPass};
 use abt_drain::{Rests, Run, leave, outcome, picture, start_streams};
 use abt_machine::{Outcome, Want, Workload};
+use abt_order::StoredOrder;
 use abt_stream::Stream;
 use abt_work::Work;
 use std::alloc::Global;
@@ -106,6 +111,55 @@ impl<'w> Fleet<'w> {
         })
     }
 
+    // The turns of the one stream that has anything to do, if there is one, over objects without locks.
+    fn alone<R: Wait, P: Work>(
+        self,
+        rt: &R,
+        alloc: Global,
+        orders: &[StoredOrder],
+        work: &P,
+    ) -> Result<Fleet<'w>, Want>
+        requires several { 2 ≤ self.workload.streams }
+        requires calls { CallsStored self.workload (P.count work.now) }
+        requires fleet { IsFleetOf own_lock clock_at self.workload (stored_of orders.now (P.returns work.now)) self.steps self }
+        ensures fleet { IfOk result (IsFleetOf own_lock clock_at self.entry.workload (stored_of orders.now (P.returns work.now)) self.entry.steps) }
+        ensures keeps { IfOk result (λ fleet. fleet.keeps ≡ self.entry.keeps) }
+    {
+        let Fleet {
+            w,
+            steps,
+            keeps,
+            objects,
+            mut streams,
+        } = self;
+        let Some(s) = find_alone(w, &objects, &streams) else {
+            return Ok(Fleet {
+                w,
+                steps,
+                keeps,
+                objects,
+                streams,
+            });
+        };
+        let objects = go_alone(
+            rt,
+            alloc,
+            w,
+            orders,
+            work,
+            s,
+            objects,
+            &mut streams[s as usize],
+        )?;
+        Ok(Fleet {
+            w,
+            steps,
+            keeps,
+            objects,
+            streams,
+        })
+    }
+
     // How the run ended, if it did.
     fn ended(&self) -> Option<Outcome>
         requires objects { self.now.objects.workload ≡ self.now.workload }
@@ -137,6 +191,41 @@ impl<'w> Fleet<'w> {
                 Some(outcome) => return Ok((fleet, outcome)),
                 None => {}
             }
+        }
+        unreachable!()
+    }
+
+    /// Waves of several streams over a lock for each site, until nothing is left to do or a stream is spent. While one stream alone has
+    /// anything to do, it makes its turns on the caller's thread.
+    pub(crate) fn run_split<R: Threads + Wait + Sync, P: Work + Sync>(
+        self,
+        rt: &'w R,
+        alloc: Global,
+        orders: &[StoredOrder],
+        work: &P,
+    ) -> Result<(Fleet<'w>, Outcome), Want>
+        requires several { 2 ≤ self.workload.streams }
+        requires calls { CallsStored self.workload (P.count work.now) }
+        requires fleet { IsFleetOf own_lock clock_at self.workload (stored_of orders.now (P.returns work.now)) self.steps self }
+        ensures ended { IfOk result (λ ended. HasEnded own_lock clock_at self.entry.workload (stored_of orders.now (P.returns work.now)) self.entry.steps ended.0 ended.1) }
+        ensures keeps { IfOk result (λ ended. ended.0.keeps ≡ self.entry.keeps) }
+    {
+        let live = vec![in alloc; true; self.w.streams() as usize]?;
+        let starts = Starts::new();
+        let mut fleet = self;
+        'waves: for _ in rt.forever() {
+            fleet = fleet.alone(rt, alloc, orders, work)?;
+            if let Some(outcome) = fleet.ended() {
+                return Ok((fleet, outcome));
+            }
+            fleet = fleet.wave::<R, P, StoredOrders<'_>, SplitPass<'w>, Split<'w, R>>(
+                rt,
+                alloc,
+                &StoredOrders { orders },
+                work,
+                &live,
+                &starts,
+            )?;
         }
         unreachable!()
     }

@@ -20,6 +20,7 @@ ghost use Rattle.abt_waves.specs.Locks.{AreClosed, HasSeenNothing, LocksValue, M
 ghost use Rattle.abt_waves.specs.SplitLocks.{locks_of_split};
 ghost use Rattle.abt_waves.specs.Storing.{stored_by};
 
+use crate::puts::{Puts, noted_turn};
 use abt_commons::{Commons, Objects, Split, SplitPass};
 use abt_machine::{Want, Workload};
 use abt_order::StoredOrder;
@@ -48,9 +49,11 @@ pub trait Locked {
     // The pass is of these locks.
     ghost is_of: { Self → Self.Pass → Type 0 };
 
-    /// One turn of a stream.
-    fn turn<P: Work>(
+    /// One turn of a stream, which notes the pool into which it puts a unit.
+    fn turn<T: Wait, P: Work>(
         &self,
+        rt: &T,
+        puts: &Puts,
         stream: &mut Stream,
         pass: &mut Self::Pass,
         w: &Workload,
@@ -150,14 +153,16 @@ impl<'w, R: Wait> Locked for Split<'w, R> {
 
     ghost begins = { split_begins };
 
-    fn turn<P: Work>(
+    fn turn<T: Wait, P: Work>(
         &self,
+        rt: &T,
+        puts: &Puts,
         stream: &mut Stream,
         pass: &mut SplitPass<'w>,
         w: &Workload,
         work: &P,
     ) -> Turn {
-        stream.turn(self, pass, w, work)
+        noted_turn(rt, self, puts, stream, pass, w, work)
     }
 }
 

@@ -9,7 +9,7 @@ ghost use Rattle.abt_waves.specs.Storing.{stored_by};
 
 use crate::fleet::Fleet;
 use crate::locks::{Locked, Locking, Orders, StoredOrders};
-use abt_commons::{Split, SplitPass};
+use abt_commons::Split;
 use abt_drain::{Run, drain_with};
 use abt_machine::{Want, Workload};
 use abt_order::StoredOrder;
@@ -19,9 +19,10 @@ use std::sync::Wait;
 use std::thread::Threads;
 
 /// Runs a workload whose streams may make `steps` steps each; `work` has the functions that its units call, and is called
-/// before each step. In a wave each stream makes
+/// before each step. While one stream alone has
+/// anything to do, it makes its turns on the caller's thread, without a lock. In a wave each stream makes
 /// turns on a thread of its own, over objects that have a lock each, until it is spent, or finds nothing while no other stream
-/// has work, or finds nothing too often in a row. Waves go on until one leaves nothing to do or a stream spent. If no thread can be
+/// has work, or finds nothing too often in a row. Waves go on until nothing is left to do or a stream is spent. If no thread can be
 /// started the caller's does its work. A workload with one stream runs on the caller's thread, without a lock. The run keeps its
 /// journal if `keeps`.
 ///
@@ -44,15 +45,15 @@ pub fn run_streams<'w, R: Threads + Wait + Sync, P: Work + Sync>(
     if w.streams() == 1 {
         return drain_with(alloc, w, orders, work, steps, keeps);
     }
-    run_over::<R, P, StoredOrders<'_>, SplitPass<'w>, Split<'w, R>>(
-        rt,
+    let fleet = Fleet::new::<R, StoredOrders<'_>, Split<'w, R>>(
         alloc,
         w,
         &StoredOrders { orders },
-        work,
         steps,
         keeps,
-    )
+    )?;
+    let (fleet, outcome) = fleet.run_split(rt, alloc, orders, work)?;
+    fleet.end::<R, Split<'w, R>>(alloc, outcome)
 }
 
 /// The run in waves over any locks. Stamps are Lamport's if each site has a lock of its own.

@@ -1,45 +1,106 @@
-//! How many streams of a wave have work or look for some, and how many wait, as one number that changes in one step.
+//! How many streams of a wave are still to start, how many have work or look for some, and how many wait, as one number that changes in
+//! one step.
 
-ghost use Rattle.std.specs.Prelude.{◌≡◌, ◌≢◌, ◌<◌, ◌≤◌, ◌+◌, ◌-◌, true};
-ghost use Rattle.abt_waves.specs.Tallies.{HasSomeone};
+ghost use Rattle.std.specs.Prelude.{◌≡◌, ◌≢◌, ◌<◌, ◌≤◌, ◌+◌, ◌-◌, IfSome, true};
+ghost use Rattle.abt_waves.specs.Tallies.{HasSomeone, IsLast};
 
-/// Of the streams that have started.
+/// Of the streams of a wave.
 #[derive(Clone, Copy)]
 pub(crate) struct Tally {
-    /// How often those that waited were called to look again.
-    pub(crate) calls: u32,
-    /// How many have work, or look for some.
+    /// How many are still to start, and are waited for.
+    pub(crate) awaited: u8,
+    /// How many have work, or look for some. One that was called counts from then on, before it wakes.
     pub(crate) active: u8,
-    /// How many have found none since they were called, and wait.
+    /// How many have found none, and wait or are about to wake.
     pub(crate) waiting: u8,
-    /// Whether there was a moment at which none was active. Nobody waits then.
+    /// Whether there was a moment at which none was active and none awaited. Nobody waits then.
     pub(crate) over: bool,
 }
 
+/// What a stream of a wave does, or what is done to it: it starts, it is called while it waits, it wakes, it leaves, it waits, and all that have
+/// not started are waited for no longer.
+#[derive(Clone, Copy)]
+pub(crate) enum Change {
+    Started,
+    Called,
+    Woken,
+    Left,
+    Rested,
+    Abandoned,
+}
+
 impl Tally {
-    /// The tally that this number holds; `word` packs it.
-    pub(crate) fn of(word: u64) -> Tally {
+    /// So many are to start.
+    pub(crate) fn new(awaited: u8) -> Tally
+        ensures awaited { result.awaited ≡ awaited }
+        ensures nobody { (result.active ≡ 0) × (result.waiting ≡ 0) }
+        ensures someone { HasSomeone result }
+    {
         Tally {
-            calls: (word % (1 << 32)) as u32,
-            active: ((word >> 32) % (1 << 8)) as u8,
-            waiting: ((word >> 40) % (1 << 8)) as u8,
-            over: (word >> 48) % 2 == 1,
+            awaited,
+            active: 0,
+            waiting: 0,
+            over: false,
         }
     }
 
-    /// The tally as a number, whose low 32 bits are the calls.
-    pub(crate) fn word(self) -> u64 {
-        let over = if self.over { 1 } else { 0 };
-        self.calls as u64 | (self.active as u64) << 32 | (self.waiting as u64) << 40 | over << 48
+    /// The tally that this number holds; `word` packs it.
+    pub(crate) fn of(word: u64) -> Tally {
+        Tally {
+            awaited: (word % (1 << 8)) as u8,
+            active: ((word >> 8) % (1 << 8)) as u8,
+            waiting: ((word >> 16) % (1 << 8)) as u8,
+            over: (word >> 24) % 2 == 1,
+        }
     }
 
-    /// One more is active.
-    pub(crate) fn joined(self) -> Tally
+    /// The tally as a number.
+    pub(crate) fn word(self) -> u64 {
+        let over = if self.over { 1 } else { 0 };
+        self.awaited as u64 | (self.active as u64) << 8 | (self.waiting as u64) << 16 | over << 24
+    }
+
+    /// The tally after a change. None if the wave is over and the stream is not to wait.
+    pub(crate) fn after(self, change: Change) -> Option<Tally>
+        ensures someone { HasSomeone self → IfSome result HasSomeone }
+    {
+        match change {
+            Change::Started => Some(self.started()),
+            Change::Called => Some(self.called()),
+            Change::Woken => Some(self.woken()),
+            Change::Left => Some(self.left()),
+            Change::Abandoned => Some(self.abandoned()),
+            Change::Rested => {
+                if self.over {
+                    return None;
+                }
+                Some(self.rested())
+            }
+        }
+    }
+
+    // One more is active, and is not awaited any longer.
+    fn started(self) -> Tally
         ensures active { self.active < 255 → result.active ≡ self.active + 1 }
+        ensures awaited { result.awaited ≡ self.awaited - 1 }
         ensures waiting { result.waiting ≡ self.waiting }
-        ensures calls { result.calls ≡ self.calls }
         ensures over { result.over ≡ self.over }
-        ensures someone { HasSomeone self → HasSomeone result }
+        ensures someone { HasSomeone result }
+    {
+        Tally {
+            awaited: self.awaited.saturating_sub(1),
+            active: self.active.saturating_add(1),
+            ..self
+        }
+    }
+
+    // One that waits is called, and is active from now on.
+    fn called(self) -> Tally
+        ensures active { self.active < 255 → result.active ≡ self.active + 1 }
+        ensures awaited { result.awaited ≡ self.awaited }
+        ensures waiting { result.waiting ≡ self.waiting }
+        ensures over { result.over ≡ self.over }
+        ensures someone { HasSomeone result }
     {
         Tally {
             active: self.active.saturating_add(1),
@@ -47,45 +108,42 @@ impl Tally {
         }
     }
 
-    /// All that wait are called, and so are active from now on.
-    pub(crate) fn called(self) -> Tally
-        ensures active { self.active + self.waiting ≤ 255 → result.active ≡ self.active + self.waiting }
-        ensures nobody { result.waiting ≡ 0 }
-        ensures calls { result.calls ≢ self.calls }
+    // One that was called no longer waits.
+    fn woken(self) -> Tally
+        ensures waiting { result.waiting ≡ self.waiting - 1 }
+        ensures active { result.active ≡ self.active }
+        ensures awaited { result.awaited ≡ self.awaited }
         ensures over { result.over ≡ self.over }
+        ensures someone { HasSomeone self → HasSomeone result }
     {
         Tally {
-            calls: self.calls.wrapping_add(1),
-            active: self.active.saturating_add(self.waiting),
-            waiting: 0,
+            waiting: self.waiting.saturating_sub(1),
             ..self
         }
     }
 
-    /// One that was active leaves. The last one ends the wave.
-    pub(crate) fn left(self) -> Tally
-        ensures last { self.active ≤ 1 → result.over ≡ true }
-        ensures called { self.active ≤ 1 → result.calls ≢ self.calls }
-        ensures active { 1 < self.active → result.active ≡ self.active - 1 }
-        ensures waiting { 1 < self.active → result.waiting ≡ self.waiting }
-        ensures calls { 1 < self.active → result.calls ≡ self.calls }
-        ensures over { 1 < self.active → result.over ≡ self.over }
+    // One that was active leaves. The last one ends the wave, if none is awaited.
+    fn left(self) -> Tally
+        ensures last { IsLast self → result.over ≡ true }
+        ensures active { result.active ≡ self.active - 1 }
+        ensures awaited { result.awaited ≡ self.awaited }
+        ensures waiting { (IsLast self → ⊥) → result.waiting ≡ self.waiting }
+        ensures over { (IsLast self → ⊥) → result.over ≡ self.over }
         ensures someone { HasSomeone result }
     {
-        let active = self.active.saturating_sub(1);
-        if active == 0 {
-            return self.ended();
+        Tally {
+            active: self.active.saturating_sub(1),
+            ..self
         }
-        Tally { active, ..self }
+        .ended_if_none()
     }
 
-    /// One that was active waits; or none is active any longer, which ends the wave.
-    pub(crate) fn rested(self) -> Tally
-        ensures last { self.active ≤ 1 → result.over ≡ true }
-        ensures called { self.active ≤ 1 → result.calls ≢ self.calls }
-        ensures active { 1 < self.active → self.over ≢ true → result.active ≡ self.active - 1 }
-        ensures waiting { 1 < self.active → self.over ≢ true → self.waiting < 255 → result.waiting ≡ self.waiting + 1 }
-        ensures calls { 1 < self.active → result.calls ≡ self.calls }
+    // One that was active waits; or none is active any longer, which ends the wave.
+    fn rested(self) -> Tally
+        ensures last { IsLast self → result.over ≡ true }
+        ensures active { result.active ≡ self.active - 1 }
+        ensures awaited { result.awaited ≡ self.awaited }
+        ensures waiting { (IsLast self → ⊥) → self.over ≢ true → self.waiting < 255 → result.waiting ≡ self.waiting + 1 }
         ensures someone { HasSomeone result }
     {
         let left = self.left();
@@ -98,17 +156,30 @@ impl Tally {
         }
     }
 
-    // None is active. Those that wait are called, so that they leave.
-    fn ended(self) -> Tally
-        ensures over { result.over ≡ true }
-        ensures calls { result.calls ≢ self.calls }
-        ensures nobody { (result.active ≡ 0) × (result.waiting ≡ 0) }
+    // Those that have not started are waited for no longer. If none is active, that ends the wave.
+    fn abandoned(self) -> Tally
+        ensures awaited { result.awaited ≡ 0 }
+        ensures last { self.active ≡ 0 → result.over ≡ true }
+        ensures active { result.active ≡ self.active }
+        ensures someone { HasSomeone result }
     {
-        Tally {
-            calls: self.calls.wrapping_add(1),
-            active: 0,
-            waiting: 0,
-            over: true,
+        Tally { awaited: 0, ..self }.ended_if_none()
+    }
+
+    // Over, if none is active and none awaited. Nobody waits then.
+    fn ended_if_none(self) -> Tally
+        ensures over { (self.active ≡ 0) × (self.awaited ≡ 0) → (result.over ≡ true) × (result.waiting ≡ 0) }
+        ensures goes_on { ((self.active ≡ 0) × (self.awaited ≡ 0) → ⊥) → result ≡ self }
+        ensures same { (result.active ≡ self.active) × (result.awaited ≡ self.awaited) }
+        ensures someone { HasSomeone result }
+    {
+        if self.active == 0 && self.awaited == 0 {
+            return Tally {
+                waiting: 0,
+                over: true,
+                ..self
+            };
         }
+        self
     }
 }

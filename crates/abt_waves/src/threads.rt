@@ -34,16 +34,19 @@ pub(crate) fn jobs<'a, C, X: Drop>(
     let mut jobs = Vec::with_capacity(alloc, streams.len())?;
     let mut left = passes.into_iter();
     let mut flags = live.iter();
+    let mut number: u32 = 0;
     'streams: for stream in streams {
         let (Some(pass), Some(live)) = (left.next(), flags.next()) else {
             unreachable!();
         };
         jobs.push(Job {
             locks,
+            number,
             stream,
             pass,
             live: *live,
         })?;
+        number = number.wrapping_add(1);
     }
     Ok(jobs)
 }

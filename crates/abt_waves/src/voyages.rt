@@ -11,19 +11,21 @@ ghost use Rattle.abt_waves.specs.Storing.{stored_by};
 ghost use Rattle.abt_waves.specs.declared.voyages.Stop.TheVariants as stops;
 ghost use Rattle.abt_waves.specs.Jobs.{HasReturned, MayGo};
 
-use crate::calling::Calling;
 use crate::locks::{Locked, Orders};
+use crate::puts::Puts;
 use crate::watch::{Shift, Watch};
 use abt_machine::{Want, Workload};
 use abt_stream::{Stream, Turn};
 use abt_work::Work;
 use std::marker::Model;
 use std::sync::Wait;
+use std::thread::Threads;
 
-/// A stream with its pass, the objects that it calls, and whether it is live: one that is not makes no turn.
+/// A stream with its number and its pass, the objects that it calls, and whether it is live: one that is not makes no turn.
 #[derive(Drop)]
 pub(crate) struct Job<'a, C, X> {
     pub(crate) locks: &'a C,
+    pub(crate) number: u32,
     pub(crate) stream: Stream,
     pub(crate) pass: X,
     pub(crate) live: bool,
@@ -55,7 +57,7 @@ pub(crate) struct Returned<X> {
 }
 
 /// All that a stream does in a wave.
-pub(crate) fn voyage<'a, R: Wait, P: Work, O: Orders, C: Locked>(
+pub(crate) fn voyage<'a, R: Threads + Wait, P: Work, O: Orders, C: Locked>(
     rt: &R,
     w: &Workload,
     orders: &O,
@@ -70,6 +72,7 @@ pub(crate) fn voyage<'a, R: Wait, P: Work, O: Orders, C: Locked>(
 {
     let Job {
         locks,
+        number,
         mut stream,
         mut pass,
         live,
@@ -81,17 +84,28 @@ pub(crate) fn voyage<'a, R: Wait, P: Work, O: Orders, C: Locked>(
             stop: Stop::Idle,
         };
     }
-    let stop = turns(rt, w, orders, work, watch, locks, &mut stream, &mut pass);
+    let stop = turns(
+        rt,
+        w,
+        orders,
+        work,
+        watch,
+        number,
+        locks,
+        &mut stream,
+        &mut pass,
+    );
     Returned { stream, pass, stop }
 }
 
 // The turns of a stream, until it stops.
-fn turns<R: Wait, P: Work, O: Orders, C: Locked>(
+fn turns<R: Threads + Wait, P: Work, O: Orders, C: Locked>(
     rt: &R,
     w: &Workload,
     orders: &O,
     work: &P,
     watch: &Watch,
+    number: u32,
     locks: &C,
     stream: &mut Stream,
     pass: &mut C::Pass,
@@ -104,9 +118,12 @@ fn turns<R: Wait, P: Work, O: Orders, C: Locked>(
     ensures gone { (first : StreamValue) → HasGone (C.locks locks.now) C.lock w.now (stored_by (O.shapes orders.now) (P.returns work.now)) first stream.old pass.old → HasGone (C.locks locks.now) C.lock w.now (stored_by (O.shapes orders.now) (P.returns work.now)) first stream.new pass.new }
     ensures worn { StopsBy (C.locks locks.now) C.lock stream.new pass.new result }
 {
-    let mut shift = watch.start(rt);
+    let mut shift = watch.start(rt, number);
+    let puts = Puts::new();
     'turns: for _ in rt.forever() {
-        match take_turn(rt, w, orders, work, watch, &mut shift, locks, stream, pass) {
+        match take_turn(
+            rt, w, orders, work, watch, &mut shift, &puts, locks, stream, pass,
+        ) {
             Some(stop) => {
                 watch.leave(shift);
                 return stop;
@@ -118,13 +135,14 @@ fn turns<R: Wait, P: Work, O: Orders, C: Locked>(
 }
 
 // One turn, and why the stream stops after it, if it does.
-fn take_turn<R: Wait, P: Work, O: Orders, C: Locked>(
+fn take_turn<R: Threads + Wait, P: Work, O: Orders, C: Locked>(
     rt: &R,
     w: &Workload,
     orders: &O,
     work: &P,
     watch: &Watch,
     shift: &mut Shift,
+    puts: &Puts,
     locks: &C,
     stream: &mut Stream,
     pass: &mut C::Pass,
@@ -137,20 +155,19 @@ fn take_turn<R: Wait, P: Work, O: Orders, C: Locked>(
     ensures gone { (first : StreamValue) → HasGone (C.locks locks.now) C.lock w.now (stored_by (O.shapes orders.now) (P.returns work.now)) first stream.old pass.old → HasGone (C.locks locks.now) C.lock w.now (stored_by (O.shapes orders.now) (P.returns work.now)) first stream.new pass.new }
     ensures worn { IfSome result (StopsBy (C.locks locks.now) C.lock stream.new pass.new) }
 {
-    if stream.puts() {
-        shift.note_put();
-    }
-    let calling = Calling { work, watch, shift };
-    let Ok(turn) = advance(w, orders, &calling, locks, stream, pass) else {
+    let Ok(turn) = advance(rt, w, orders, work, puts, locks, stream, pass) else {
         watch.refuse();
         return Some(Stop::Refused);
     };
+    if let Some(p) = puts.take() {
+        watch.note_put(shift, p);
+    }
     match turn {
         Turn::Spent => Some(Stop::Spent),
         Turn::Worn => Some(Stop::Worn),
         Turn::EmptyRound => idle_unless(!stream.is_idle() || watch.found_none(rt, shift)),
-        Turn::Stepped => idle_unless(watch.turned(shift, stream.is_idle())),
-        Turn::Moved => idle_unless(watch.turned(shift, stream.is_idle())),
+        Turn::Stepped => idle_unless(watch.turned(shift, stream)),
+        Turn::Moved => idle_unless(watch.turned(shift, stream)),
     }
 }
 
@@ -161,10 +178,12 @@ fn idle_unless(goes_on: bool) -> Option<Stop>
 }
 
 // Takes the memory that one turn of a stream needs, and makes the turn.
-fn advance<P: Work, O: Orders, C: Locked>(
+fn advance<R: Wait, P: Work, O: Orders, C: Locked>(
+    rt: &R,
     w: &Workload,
     orders: &O,
     work: &P,
+    puts: &Puts,
     locks: &C,
     stream: &mut Stream,
     pass: &mut C::Pass,
@@ -179,7 +198,7 @@ fn advance<P: Work, O: Orders, C: Locked>(
 {
     w.known();
     orders.prepare(stream, w)?;
-    let turn = locks.turn(stream, pass, w, work);
+    let turn = locks.turn(rt, puts, stream, pass, w, work);
     // The number of steps is of no use here, but its contract says that it is no more than the stream may make.
     stream.steps();
     Ok(turn)

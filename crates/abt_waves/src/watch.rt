@@ -1,25 +1,29 @@
 //! How the streams of a wave know of each other whether they have work. It decides when a stream that finds nothing looks again, and
 //! when it leaves the wave. Whatever it decides, what the streams do is a run.
 //!
-//! A stream that finds nothing calls the others if it had work since it last did so, and then waits for a call. A call makes all that wait
-//! active at once, before they wake. So when none is active, each stream that has not left has looked in vain after the last work of all,
-//! and the wave is over. A stream leaves before that if it is spent, if it is out of memory, or if it has found nothing too often in a row.
+//! A stream that finds nothing marks itself, and looks once more: a unit that came into one of its pools before that is found, and who puts
+//! one afterwards sees the mark and calls the stream. If it finds nothing again it waits. Who calls a stream first counts it as active, and
+//! then takes its mark, so the count is never below the number of those that are awake. When none is active and none is to start, each
+//! stream that has not left has looked in vain after the last work of all, and the wave is over. A stream leaves before that if it is
+//! spent, if it is out of memory, or if it has found nothing too often in a row.
 
 ghost use Rattle.std.specs.Prelude.{◌≡◌, Bool, count_by};
 
-use crate::tally::Tally;
+use crate::listing::{Listing, bit};
+use crate::tally::{Change, Tally};
+use abt_machine::{PoolNo, Want, Workload};
+use abt_stream::Stream;
 use std::alloc::Global;
 use std::cell::Cell;
 use std::hint::spin_loop;
 use std::sync::Wait;
 use std::sync::atomic::{AtomicBool, AtomicU64, Ordering};
+use std::thread;
+use std::thread::Threads;
 use std::time::Duration;
 
-// A stream with work calls those that wait after this many turns; the number doubles each time none of them found work since the last
-// call, up to `RAREST_CALL`.
-const FIRST_CALL: u32 = 1 << 11;
-
-const RAREST_CALL: u32 = 1 << 16;
+// After how many turns a stream with work sees that another one is out of memory.
+const HEEDING: u32 = 1 << 12;
 
 // How many times a waiting stream checks for a call before it sleeps; halved each time no call came, until it finds work.
 const LONGEST_LOOK: u32 = 512;
@@ -27,7 +31,7 @@ const LONGEST_LOOK: u32 = 512;
 // How many microseconds a stream that has started waits before its first turn for the next one to start, at most.
 const GATHERING: u64 = 200;
 
-// How many times a stream without work sleeps, a millisecond at most, while some stream has not started.
+// How many times a stream that waits sleeps, a millisecond at most, before it no longer counts on those that have not started.
 const PATIENCE: u32 = 32;
 
 // How many further empty rounds in a row a stream without work makes at most, while others have work.
@@ -35,13 +39,13 @@ const FURTHER_ROUNDS: u32 = 1_000;
 
 /// What the waves of a run know of threads: whether one was waited for in vain, so that some streams may share a thread.
 #[derive(Drop)]
-pub(crate) struct Starts {
+pub struct Starts {
     lacking: Cell<bool>,
 }
 
 impl Starts {
     /// At the start of a run no thread is known to lack.
-    pub(crate) fn new() -> Starts {
+    pub fn new() -> Starts {
         Starts {
             lacking: Cell::new(false),
         }
@@ -58,150 +62,136 @@ impl Starts {
 pub(crate) struct Watch {
     alloc: Global,
     streams: u64,
+    listing: Listing,
     started: AtomicU64,
-    // Whether a stream has waited in vain for another one to start. Then none waits for that again.
+    // Whether threads lack, so that none waits for a stream to start.
     lacking: AtomicBool,
     tally: AtomicU64,
-    // How often a stream that had waited found work.
-    helped: AtomicU64,
-    // How many streams sleep, or are about to.
+    // The streams that are to be called if a unit comes into one of their pools.
+    marked: AtomicU64,
+    // The streams that sleep, or are about to.
     asleep: AtomicU64,
+    // Of each stream how often it was called, on which it sleeps.
+    calls: Vec<AtomicU64>,
     refused: AtomicBool,
 }
 
 /// What a stream is at.
 #[derive(Drop)]
 pub(crate) struct Shift {
+    stream: u32,
+    bit: u64,
     // Whether it counts as active.
     active: bool,
-    // How many calls there were when it last began to look.
-    calls: u32,
-    // Whether it had work since its last call.
-    worked: bool,
-    // Whether it has put a unit since its last call.
-    put: Cell<bool>,
+    // Whether it has marked itself.
+    marked: bool,
     // Whether it has waited since it last had work.
     waited: bool,
-    // Its turns since its last call, after how many it calls next, and how often others had found work by then.
-    turns: u32,
-    interval: u32,
-    helped: u64,
     // How often it looks before it sleeps.
     look: u32,
+    // How often it still sleeps for those that have not started.
+    patience: u32,
     // How many further rounds it has begun since the first that found nothing after it last had work.
     further_rounds: u32,
-}
-
-impl Shift {
-    /// The stream puts a unit into a pool.
-    pub(crate) fn note_put(&self) {
-        self.put.set(true);
-    }
+    // How many turns it makes before it looks whether another one is out of memory.
+    heeding: u32,
 }
 
 impl Watch {
-    /// For the streams that are live, none of which has started.
-    pub(crate) fn new(alloc: Global, live: &[bool], starts: &Starts) -> Watch {
-        Watch {
+    /// For the streams that are live, none of which has started. Err: out of memory.
+    pub(crate) fn new(
+        alloc: Global,
+        w: &Workload,
+        live: &[bool],
+        starts: &Starts,
+    ) -> Result<Watch, Want> {
+        let streams = live_count(live);
+        let lacking = starts.lacking.get();
+        let awaited = if lacking { 0 } else { streams.min(64) as u8 };
+        Ok(Watch {
             alloc,
-            streams: live_count(live),
+            streams,
+            listing: Listing::new(alloc, w)?,
             started: AtomicU64::new(0),
-            lacking: AtomicBool::new(starts.lacking.get()),
-            tally: AtomicU64::new(0),
-            helped: AtomicU64::new(0),
+            lacking: AtomicBool::new(lacking),
+            tally: AtomicU64::new(Tally::new(awaited).word()),
+            marked: AtomicU64::new(0),
             asleep: AtomicU64::new(0),
+            calls: zeros(alloc, live.len())?,
             refused: AtomicBool::new(false),
-        }
+        })
     }
 
     /// A stream starts, and is active. It waits a little for the others, so that they begin together.
-    pub(crate) fn start<R: Wait>(&self, rt: &R) -> Shift {
+    pub(crate) fn start<R: Wait>(&self, rt: &R, stream: u32) -> Shift {
         self.touch_memory();
-        let _ = self.tally.fetch_update(
-            Ordering::SeqCst,
-            Ordering::SeqCst,
-            |word| Some(Tally::of(word).joined().word()),
-        );
+        self.count(Change::Started);
         self.started.fetch_add(1, Ordering::SeqCst);
         self.started.wake_all();
         self.gather(rt);
         Shift {
+            stream,
+            bit: bit(stream),
             active: true,
-            calls: self.tally().calls,
-            worked: false,
-            put: Cell::new(false),
+            marked: false,
             waited: false,
-            turns: 0,
-            interval: FIRST_CALL,
-            helped: 0,
             look: LONGEST_LOOK,
+            patience: PATIENCE,
             further_rounds: 0,
+            heeding: HEEDING,
         }
     }
 
-    /// After a turn of a stream that has work or looks for some, and is idle or not: whether it goes on.
-    pub(crate) fn turned(&self, shift: &mut Shift, idle: bool) -> bool {
-        if !idle {
+    /// A stream has put a unit into this pool: those that wait and list it are called.
+    #[inline(always)]
+    pub(crate) fn note_put(&self, shift: &Shift, p: PoolNo) {
+        let others = self.listing.of(p) & !shift.bit;
+        if others & self.marked.load(Ordering::SeqCst) != 0 {
+            self.call(others);
+        }
+    }
+
+    /// After a turn of a stream that did not end a round empty: whether it goes on.
+    #[inline(always)]
+    pub(crate) fn turned(&self, shift: &mut Shift, stream: &Stream) -> bool {
+        if shift.further_rounds > 0 && !stream.is_idle() {
             self.note_work(shift);
         }
-        if shift.turns < shift.interval {
-            shift.turns += 1;
+        if shift.heeding > 0 {
+            shift.heeding -= 1;
             return true;
         }
-        shift.turns = 0;
-        if self.tally().waiting > 0 {
-            self.call();
-            shift.put.set(false);
-            shift.worked = !idle;
-            self.choose_interval(shift);
-        }
+        shift.heeding = HEEDING;
         !self.refused.load(Ordering::SeqCst)
     }
 
-    /// Before a function of the user's runs, which may take long: those that wait are called if the stream has put a unit that they
-    /// may not have seen.
-    pub(crate) fn before_call(&self, shift: &Shift) {
-        if shift.put.get() && self.tally().waiting > 0 {
-            self.call();
-            shift.put.set(false);
-        }
-    }
-
-    /// After a round in which a stream found nothing: whether it goes on. It looks again if there was a call since it began to look, and
-    /// else waits for one. It does not go on if it has made all the further rounds that it may make.
-    pub(crate) fn found_none<R: Wait>(&self, rt: &R, shift: &mut Shift) -> bool {
-        if shift.further_rounds >= FURTHER_ROUNDS {
+    /// After a round in which a stream found nothing: whether it goes on. It looks once more if it was not marked, or was called since, and
+    /// else waits for a call. It does not go on if it has made all the further rounds that it may make.
+    pub(crate) fn found_none<R: Threads + Wait>(&self, rt: &R, shift: &mut Shift) -> bool {
+        if shift.further_rounds >= FURTHER_ROUNDS || self.tally().over {
             return false;
         }
         shift.further_rounds += 1;
-        self.await_starts(rt);
-        match self.rest(shift) {
-            Some(tally) if !tally.over => self.await_call(rt, shift, tally.calls),
-            _ => {}
+        if self.streams > 1 && !(shift.marked && self.is_marked(shift)) {
+            self.unmark(shift);
+            self.mark(shift);
+            return !self.refused.load(Ordering::SeqCst);
         }
-        let tally = self.tally();
-        shift.calls = tally.calls;
-        shift.active = !tally.over;
-        shift.active && !self.refused.load(Ordering::SeqCst)
+        self.rest(rt, shift) && !self.refused.load(Ordering::SeqCst)
     }
 
     /// A stream leaves the wave.
-    pub(crate) fn leave(&self, shift: Shift) {
+    pub(crate) fn leave(&self, mut shift: Shift) {
         if shift.active {
-            let worked = shift.worked;
-            let _ = self.tally.fetch_update(
-                Ordering::SeqCst,
-                Ordering::SeqCst,
-                |word| Some(calling(Tally::of(word), worked).left().word()),
-            );
-            self.wake();
+            self.unmark(&mut shift);
+            self.count_down(Change::Left);
         }
     }
 
     /// The stream is out of memory, and all others are to leave too.
     pub(crate) fn refuse(&self) {
         self.refused.store(true, Ordering::SeqCst);
-        self.call();
+        self.call(u64::MAX);
     }
 
     // The tally at this moment.
@@ -209,76 +199,129 @@ impl Watch {
         Tally::of(self.tally.load(Ordering::SeqCst))
     }
 
-    // Those that wait are to look again.
-    fn call(&self) {
-        let _ = self.tally.fetch_update(
+    // Changes the tally; returns what it is then. None if the wave is over and the stream is not to wait.
+    fn count(&self, change: Change) -> Option<Tally> {
+        let counted = self.tally.fetch_update(
             Ordering::SeqCst,
             Ordering::SeqCst,
-            |word| Some(Tally::of(word).called().word()),
+            |word| word_after(word, change),
         );
-        self.wake();
+        match counted {
+            Ok(word) => Tally::of(word).after(change),
+            Err(_) => None,
+        }
     }
 
-    // Those that sleep wake, if there are any.
-    fn wake(&self) {
-        if self.asleep.load(Ordering::SeqCst) > 0 {
-            self.tally.wake_all();
+    // As `count`; if that ends the wave, those that wait leave.
+    fn count_down(&self, change: Change) {
+        match self.count(change) {
+            Some(tally) if tally.over => self.end(),
+            _ => {}
+        }
+    }
+
+    // The streams among these that are marked are called.
+    fn call(&self, streams: u64) {
+        let called = streams & self.marked.load(Ordering::SeqCst);
+        let mut s = 0;
+        for calls in self.calls.iter() {
+            if called & bit(s) != 0 {
+                self.call_one(bit(s), calls);
+            }
+            s = s.wrapping_add(1);
+        }
+    }
+
+    // A stream is called, unless another one has called it meanwhile.
+    fn call_one(&self, bit: u64, calls: &AtomicU64) {
+        self.count(Change::Called);
+        if self.marked.fetch_and(!bit, Ordering::SeqCst) & bit == 0 {
+            self.count_down(Change::Left);
+        } else {
+            self.wake(bit, calls);
+        }
+    }
+
+    // A stream that was called wakes, if it sleeps.
+    fn wake(&self, bit: u64, calls: &AtomicU64) {
+        calls.fetch_add(1, Ordering::SeqCst);
+        if self.asleep.load(Ordering::SeqCst) & bit != 0 {
+            calls.wake_all();
+        }
+    }
+
+    // The wave is over: all that wait wake.
+    fn end(&self) {
+        let mut s = 0;
+        for calls in self.calls.iter() {
+            self.wake(bit(s), calls);
+            s = s.wrapping_add(1);
+        }
+    }
+
+    // The stream is to be called if a unit comes into one of its pools.
+    fn mark(&self, shift: &mut Shift) {
+        shift.marked = true;
+        self.marked.fetch_or(shift.bit, Ordering::SeqCst);
+    }
+
+    // Whether the stream is marked, and so was not called since it marked itself.
+    fn is_marked(&self, shift: &Shift) -> bool {
+        self.marked.load(Ordering::SeqCst) & shift.bit != 0
+    }
+
+    // The stream needs no call. If it was called it was counted once more.
+    fn unmark(&self, shift: &mut Shift) {
+        if !shift.marked {
+            return;
+        }
+        shift.marked = false;
+        if self.marked.fetch_and(!shift.bit, Ordering::SeqCst) & shift.bit == 0 {
+            self.count_down(Change::Left);
         }
     }
 
     // The stream has work.
     fn note_work(&self, shift: &mut Shift) {
-        shift.worked = true;
+        self.unmark(shift);
         shift.further_rounds = 0;
         if shift.waited {
             shift.waited = false;
             shift.look = LONGEST_LOOK;
-            shift.interval = FIRST_CALL;
-            self.helped.fetch_add(1, Ordering::SeqCst);
         }
     }
 
-    // The stream calls next after `FIRST_CALL` turns if its last call helped, and else after twice as many turns as before.
-    fn choose_interval(&self, shift: &mut Shift) {
-        let helped = self.helped.load(Ordering::SeqCst);
-        shift.interval = if helped != shift.helped {
-            FIRST_CALL
-        } else {
-            shift.interval.saturating_mul(2).min(RAREST_CALL)
-        };
-        shift.helped = helped;
+    // The stream waits, and is active again once it is called; returns false if the wave is over.
+    fn rest<R: Threads + Wait>(&self, rt: &R, shift: &mut Shift) -> bool {
+        match self.count(Change::Rested) {
+            Some(tally) if tally.over => self.end(),
+            Some(_) => self.await_call(rt, shift),
+            None => {}
+        }
+        self.count(Change::Woken);
+        shift.marked = false;
+        shift.active = !self.tally().over;
+        shift.active
     }
 
-    // The stream waits; returns the tally after that, or None if it is to look again, or if the wave is over.
-    fn rest(&self, shift: &mut Shift) -> Option<Tally> {
-        let calls = shift.calls;
-        let worked = shift.worked;
-        let rested = self.tally.fetch_update(
-            Ordering::SeqCst,
-            Ordering::SeqCst,
-            |word| rested(Tally::of(word), calls, worked),
-        );
-        let Ok(word) = rested else {
-            return None;
-        };
-        shift.worked = false;
-        self.wake();
-        Some(calling(Tally::of(word), worked).rested())
-    }
-
-    // Waits until the count of calls is no longer this one.
-    fn await_call<R: Wait>(&self, rt: &R, shift: &mut Shift, calls: u32) {
+    // Waits until the stream is called, or the wave is over.
+    fn await_call<R: Threads + Wait>(&self, rt: &R, shift: &mut Shift) {
         shift.waited = true;
-        if !self.looks(shift.look, calls) {
+        if !self.looks(shift) {
             shift.look /= 2;
-            self.sleep(rt, calls);
+            self.sleep(rt, shift);
         }
     }
 
-    // Checks this many times whether the count of calls is no longer this one; returns whether it found that.
-    fn looks(&self, look: u32, calls: u32) -> bool {
-        for _ in 0..look {
-            if self.tally().calls != calls {
+    // Whether the stream was called, or the wave is over.
+    fn is_called(&self, shift: &Shift) -> bool {
+        !self.is_marked(shift) || self.tally().over
+    }
+
+    // Checks some times whether the stream is called, or the wave over; returns whether it found that.
+    fn looks(&self, shift: &Shift) -> bool {
+        for _ in 0..shift.look {
+            if self.is_called(shift) {
                 return true;
             }
             spin_loop();
@@ -286,16 +329,45 @@ impl Watch {
         false
     }
 
-    // Sleeps until the count of calls is no longer this one.
-    fn sleep<R: Wait>(&self, rt: &R, calls: u32) {
-        self.asleep.fetch_add(1, Ordering::SeqCst);
+    // Sleeps until the stream is called, or the wave is over.
+    fn sleep<R: Threads + Wait>(&self, rt: &R, shift: &mut Shift) {
+        let Some(calls) = self.calls.get(shift.stream as usize) else {
+            return;
+        };
+        self.asleep.fetch_or(shift.bit, Ordering::SeqCst);
         for _ in rt.forever() {
-            if self.tally().calls != calls {
+            let seen = (calls.load(Ordering::SeqCst) % (1 << 32)) as u32;
+            if self.is_called(shift) {
                 break;
             }
-            self.tally.park(rt, calls);
+            if self.tally().awaited == 0 {
+                calls.park(rt, seen);
+            } else if self.counts_on_starts(rt, shift) {
+                calls.park_timeout(rt, seen, Duration::from_millis(1));
+            } else {
+                self.abandon();
+            }
         }
-        self.asleep.fetch_sub(1, Ordering::SeqCst);
+        self.asleep.fetch_and(!shift.bit, Ordering::SeqCst);
+    }
+
+    // Whether those that have not started may still start while the stream sleeps: there is a thread to be had, and it has not yet slept
+    // for them in vain.
+    fn counts_on_starts<R: Threads>(&self, rt: &R, shift: &mut Shift) -> bool {
+        if shift.patience == PATIENCE && thread::spawn(rt, || {}).is_err() {
+            return false;
+        }
+        if shift.patience == 0 {
+            return false;
+        }
+        shift.patience -= 1;
+        true
+    }
+
+    // Those that have not started are waited for no longer, in this wave and in later ones.
+    fn abandon(&self) {
+        self.lacking.store(true, Ordering::SeqCst);
+        self.count_down(Change::Abandoned);
     }
 
     // Takes memory and gives it back: on a new thread the first time takes longer than the work of a small workload.
@@ -303,7 +375,7 @@ impl Watch {
         let _ = Vec::<u64>::with_capacity(self.alloc, 1);
     }
 
-    // Waits until all streams have started, or until none has for as long as `GATHERING`, unless one was waited for in vain before.
+    // Waits until all streams have started, or until none has for as long as `GATHERING`, unless threads lack.
     fn gather<R: Wait>(&self, rt: &R) {
         for _ in 0..self.streams {
             let started = self.started.load(Ordering::SeqCst);
@@ -318,19 +390,6 @@ impl Watch {
             }
         }
     }
-
-    // Waits while some stream has not started, `PATIENCE` sleeps at most, unless that was in vain before.
-    fn await_starts<R: Wait>(&self, rt: &R) {
-        for _ in 0..PATIENCE {
-            let started = self.started.load(Ordering::SeqCst);
-            if self.lacking.load(Ordering::SeqCst) || started >= self.streams {
-                return;
-            }
-            let low = (started % (1 << 32)) as u32;
-            self.started.park_timeout(rt, low, Duration::from_millis(1));
-        }
-        self.lacking.store(true, Ordering::SeqCst);
-    }
 }
 
 // How many streams are live.
@@ -340,15 +399,19 @@ fn live_count(live: &[bool]) -> u64
     live.iter().filter(|live| **live).count() as u64
 }
 
-// The tally with a call of those that wait, if the stream has worked.
-fn calling(tally: Tally, worked: bool) -> Tally {
-    if worked { tally.called() } else { tally }
+// The tally after a change, both as numbers.
+fn word_after(word: u64, change: Change) -> Option<u64> {
+    match Tally::of(word).after(change) {
+        Some(tally) => Some(tally.word()),
+        None => None,
+    }
 }
 
-// The tally when a stream rests that began to look at this count of calls; None if there was a call since then, or the wave is over.
-fn rested(tally: Tally, calls: u32, worked: bool) -> Option<u64> {
-    if tally.over || tally.calls != calls {
-        return None;
+// So many words, which are 0.
+fn zeros(alloc: Global, count: usize) -> Result<Vec<AtomicU64>, Want> {
+    let mut words = Vec::with_capacity(alloc, count)?;
+    for _ in 0..count {
+        words.push(AtomicU64::new(0))?;
     }
-    Some(calling(tally, worked).rested().word())
+    Ok(words)
 }

@@ -25,7 +25,8 @@ use std::thread::Threads;
 
 /// One wave: each stream that `live` marks makes turns on a thread of its own, over objects that have a lock each, until it is
 /// spent, or finds nothing while no other stream has work, or finds nothing too often in a row. All others stay as they are. If no
-/// thread can be started the caller's does its work. Err: out of memory, in one stream or before all.
+/// thread can be started the caller's does its work. `starts` goes from wave to wave of a run. Err: out of memory, in one stream or
+/// before all.
 pub fn run_wave<'w, R: Threads + Wait + Sync, P: Work + Sync>(
     rt: &'w R,
     alloc: Global,
@@ -35,6 +36,7 @@ pub fn run_wave<'w, R: Threads + Wait + Sync, P: Work + Sync>(
     objects: Objects<'w>,
     streams: Vec<Stream>,
     live: &[bool],
+    starts: &Starts,
 ) -> Result<(Objects<'w>, Vec<Stream>), Want>
     requires calls { CallsStored w.now (P.count work.now) }
     requires fleet { (n : ℕ) × IsFleet w.now (stored_of orders.now (P.returns work.now)) n objects streams.items }
@@ -53,11 +55,11 @@ pub fn run_wave<'w, R: Threads + Wait + Sync, P: Work + Sync>(
         objects,
         streams,
         live,
-        &Starts::new(),
+        starts,
     )
 }
 
-/// The same over any locks; `starts` goes from wave to wave of a run.
+/// The same over any locks.
 pub(crate) fn sail<
     'w,
     R: Threads + Wait + Sync,
@@ -88,7 +90,7 @@ pub(crate) fn sail<
     let Ok((locks, passes)) = L::make(rt, alloc, objects, count) else {
         return Err(Want);
     };
-    let watch = Watch::new(alloc, live, starts);
+    let watch = Watch::new(alloc, w, live, starts)?;
     let jobs = jobs(alloc, &locks, streams, passes, live)?;
     let returned = run_jobs(rt, w, orders, work, &watch, jobs)?;
     starts.note(&watch);

@@ -17,7 +17,7 @@ use abt_drain::Run;
 use abt_machine::{Want, Workload};
 use abt_order::StoredOrder;
 use abt_stream::{Stream, Turn};
-use abt_waves::{Locked, Locking, StoredOrders, run_over};
+use abt_waves::{Locked, Locking, Puts, StoredOrders, noted_turn, run_over};
 use abt_work::Work;
 use std::alloc::Global;
 use std::marker::Model;
@@ -58,14 +58,16 @@ impl<'w, R: Wait> Locked for OneLock<'w, R> {
 
     ghost begins = { hall_begins };
 
-    fn turn<P: Work>(
+    fn turn<T: Wait, P: Work>(
         &self,
+        rt: &T,
+        puts: &Puts,
         stream: &mut Stream,
         pass: &mut HallPass<'w>,
         w: &Workload,
         work: &P,
     ) -> Turn {
-        stream.turn(&self.hall, pass, w, work)
+        noted_turn(rt, &self.hall, puts, stream, pass, w, work)
     }
 }
 

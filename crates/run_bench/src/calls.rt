@@ -11,7 +11,7 @@ use abt_machine::{Journal, Want, Workload};
 use abt_order::StoredOrder;
 use abt_report::{TextFault, journal_text, read_journal};
 use abt_stream::Stream;
-use abt_waves::{run_streams, run_wave};
+use abt_waves::{Starts, run_streams, run_wave};
 use abt_work::AnyWork;
 use std::alloc::Global;
 use std::io;
@@ -95,7 +95,17 @@ fn first_wave<'w, R: Threads + Wait + Sync>(
     let streams = start_streams(alloc, w, steps, false)?;
     let objects = Objects::place(alloc, w)?;
     let live = vec![in alloc; true; w.streams() as usize]?;
-    let (_, streams) = run_wave(rt, alloc, w, orders, &AnyWork, objects, streams, &live)?;
+    let (_, streams) = run_wave(
+        rt,
+        alloc,
+        w,
+        orders,
+        &AnyWork,
+        objects,
+        streams,
+        &live,
+        &Starts::new(),
+    )?;
     Ok(streams)
 }
 

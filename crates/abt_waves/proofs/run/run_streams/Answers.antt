@@ -1,22 +1,59 @@
 -- The run of several streams, over a lock for each site.
 use denote.Param.Send.{sendable}
-use Rattle.abt_commons.proofs.Crosses.{Split-sync, SplitPass-send}
-use Rattle.std.proofs.Common.{refl, ◌≤◌, sym, subst, arith}
+use Rattle.std.proofs.Common.{◌≡◌, ◌≤◌, ◌∙◌, refl, sym, subst, arith}
 use Rattle.std.proofs.lemmas.List.{length-map}
 use Rattle.std.proofs.lemmas.Result.{IfOk-weaker}
+use Rattle.abt_machine.specs.Stored.{CallsStored}
 use Rattle.abt_order.specs.Stored.{stored_of}
-use Rattle.abt_waves.proofs.Crosses.{StoredOrders-sync, vtable-sync}
-use Rattle.abt_waves.proofs.Fleets.{own-leaves, rotation-leaves}
+use Rattle.abt_commons.specs.Held.{clock_at}
+use Rattle.abt_commons.specs.Splits.{own_lock}
+use Rattle.abt_waves.specs.Ends.{LeavesWaves}
+use Rattle.abt_waves.specs.Waves.{HasEnded, IsFleetOf}
+use Rattle.abt_waves.proofs.Fleets.{fleet-own, own-fleet, own-leaves, rotation-leaves}
 use Rattle.abt_waves.proofs.run.run_streams.Goals as goal
 
-pub run_over-requires : goal.run_over-requires
-run_over-requires g c κs = (search (SplitPass-send, sendable) depth 30, (search sendable depth 30, (search sendable depth 30, (search (StoredOrders-sync, vtable-sync, g.dyn-1.3, sendable) depth 30, (search (Split-sync, sendable) depth 30, ((refl, tt), (subst (λ k. 2 ≤ k) (sym (length-map c.args.orders.now _)) c.requires.orders, c.requires.calls)))))))
+pub new-requires : goal.new-requires
+new-requires g c κs = ((refl, tt), subst (λ k. 2 ≤ k) (sym (length-map c.args.orders.now _)) c.requires.orders)
+
+pub run_split-requires : goal.run_split-requires
+run_split-requires g c =
+    let Z = stored_of c.args.orders.now (g.P.Work.returns c.args.work.now) in
+    let fleet = c.in_ok-fleet.ensures.fleet (g.P.Work.returns c.args.work.now) in
+    let several : 2 ≤ c.args.w.now.streams = omega (arith, c.streams.ensures.valid.some_stream) in (
+      search sendable depth 20,
+      (
+        search sendable depth 20,
+        (
+          fleet-own own_lock clock_at (λ V k. 2 ≤ V.streams) c.args.w.now Z c.args.steps c.in_ok-fleet.fleet fleet several,
+          (
+            fleet-own own_lock clock_at (λ V k. CallsStored V (g.P.Work.count c.args.work.now)) c.args.w.now Z c.args.steps c.in_ok-fleet.fleet fleet c.requires.calls,
+            fleet-own own_lock clock_at (λ V k. IsFleetOf own_lock clock_at V Z k c.in_ok-fleet.fleet) c.args.w.now Z c.args.steps c.in_ok-fleet.fleet fleet fleet,
+          ),
+        ),
+      ),
+    )
+
+pub end-requires : goal.end-requires
+end-requires g c κs =
+    let Z = stored_of c.args.orders.now (g.P.Work.returns c.args.work.now) in
+    let fleet = c.in_ok-fleet.ensures.fleet (g.P.Work.returns c.args.work.now) in
+    let ended : HasEnded own_lock clock_at c.args.w.now Z c.args.steps c.in_ok-fleet-2.fleet c.in_ok-fleet-2.outcome =
+    own-fleet own_lock clock_at (λ V k. HasEnded own_lock clock_at V Z k c.in_ok-fleet-2.fleet c.in_ok-fleet-2.outcome) c.args.w.now Z c.args.steps c.in_ok-fleet.fleet fleet c.in_ok-fleet-2.ensures.ended in
+    ((refl, tt), (Z, fleet-own own_lock clock_at (λ V k. HasEnded own_lock clock_at V Z k c.in_ok-fleet-2.fleet c.in_ok-fleet-2.outcome) c.args.w.now Z c.args.steps c.in_ok-fleet-2.fleet ended.fleet_is ended))
 
 pub returns : goal.returns
 returns g c =
     let Z = stored_of c.args.orders.now (g.P.Work.returns c.args.work.now) in
     let several : 2 ≤ c.args.w.now.streams = omega (arith, c.streams.ensures.valid.some_stream) in
-    record { run = IfOk-weaker c.run_over.result _ _ (λ run leaves. own-leaves c.args.w.now Z c.args.steps c.args.keeps run several leaves) c.run_over.ensures.run }
+    let fleet = c.in_ok-fleet.ensures.fleet (g.P.Work.returns c.args.work.now) in
+    let ended : HasEnded own_lock clock_at c.args.w.now Z c.args.steps c.in_ok-fleet-2.fleet c.in_ok-fleet-2.outcome =
+    own-fleet own_lock clock_at (λ V k. HasEnded own_lock clock_at V Z k c.in_ok-fleet-2.fleet c.in_ok-fleet-2.outcome) c.args.w.now Z c.args.steps c.in_ok-fleet.fleet fleet c.in_ok-fleet-2.ensures.ended in
+    let keeps : c.in_ok-fleet-2.fleet.keeps ≡ c.args.keeps = c.in_ok-fleet-2.ensures.keeps ∙ c.in_ok-fleet.ensures.keeps in
+    record {
+      run = IfOk-weaker c.end.result _ _ (λ run leaves. own-leaves c.args.w.now Z c.args.steps c.args.keeps run several (subst (λ k. LeavesWaves own_lock c.args.w.now Z c.args.steps k run) keeps (
+          own-fleet own_lock clock_at (λ V k. LeavesWaves own_lock V Z k c.in_ok-fleet-2.fleet.keeps run) c.args.w.now Z c.args.steps c.in_ok-fleet-2.fleet ended.fleet_is
+          (leaves Z (fleet-own own_lock clock_at (λ V k. HasEnded own_lock clock_at V Z k c.in_ok-fleet-2.fleet c.in_ok-fleet-2.outcome) c.args.w.now Z c.args.steps c.in_ok-fleet-2.fleet ended.fleet_is ended))))) c.end.ensures;
+    }
 
 pub returns-then-streams-eq1 : goal.returns-then-streams-eq1
 returns-then-streams-eq1 g c =

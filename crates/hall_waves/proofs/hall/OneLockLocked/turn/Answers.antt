@@ -9,5 +9,5 @@ use Rattle.hall_waves.specs.HallLocks.{locks_of_hall}
 use Rattle.hall_waves.proofs.hall.OneLockLocked.turn.Goals as goal
 
 pub returns-clause-turned : goal.returns-clause-turned
-returns-clause-turned g c = λ Z fits stored. subst (λ (h : HallValue). Turned (Heeds (Moves (locks_of_hall h) the_lock) (opening_of h.booth).workload) c.args.w.now Z c.args.stream.now c.args.pass.now c.turn.result c.turn.new.self c.turn.new.pass)
-    c.self.view_is (c.turn.ensures.turned Z fits stored)
+returns-clause-turned g c = λ Z fits stored. subst (λ (h : HallValue). Turned (Heeds (Moves (locks_of_hall h) the_lock) (opening_of h.booth).workload) c.args.w.now Z c.args.stream.now c.args.pass.now c.noted_turn.result c.noted_turn.new.stream c.noted_turn.new.pass)
+    c.self.view_is (c.noted_turn.ensures.turned Z fits stored)

@@ -1,0 +1,49 @@
+-- The turns of one stream of a fleet.
+use Rattle.std.proofs.Common.{◌≡◌, ◌<◌, ◌≤◌, length, refl, sym, ◌∙◌, ap, set, subst}
+use Rattle.abt_machine.specs.Stored.{CallsStored}
+use Rattle.abt_order.specs.Stored.{stored_of}
+use Rattle.abt_commons.specs.Held.{clock_at}
+use Rattle.abt_commons.specs.Splits.{own_lock}
+use Rattle.abt_drain.specs.Crews.{CrewValue, IsCrew}
+use Rattle.abt_waves.specs.Staying.{with_stream}
+use Rattle.abt_waves.specs.Waves.{IsFleetOf}
+use Rattle.abt_waves.proofs.Staying.{crew-fleet, crew-stays, fleet-crew, shapes-at, stream-at}
+use Rattle.abt_waves.proofs.Fleets.{fleet_of}
+use Rattle.abt_waves.proofs.fleet.Fleet.alone.Goals as goal
+
+pub find_alone-requires : goal.find_alone-requires
+find_alone-requires g c =
+    let Z = stored_of c.args.orders.now (g.P.Work.returns c.args.work.now) in
+    let is = subst (λ (v : CrewValue). IsFleetOf own_lock clock_at v.workload Z v.steps v) (sym c.self.view_is) c.requires.fleet in
+    is.fleet_is.workload
+
+pub go_alone-requires : goal.go_alone-requires
+go_alone-requires g c =
+    let Z = stored_of c.args.orders.now (g.P.Work.returns c.args.work.now) in
+    let own : CrewValue = fleet_of c.self.inside.w.now c.self.inside.steps c.self.inside.keeps c.self.inside.objects c.self.inside.streams.items in
+    let is : IsFleetOf own_lock clock_at own.workload Z own.steps own = subst (λ (v : CrewValue). IsFleetOf own_lock clock_at v.workload Z v.steps v) (sym c.self.view_is) c.requires.fleet in
+    let several : 2 ≤ own.workload.streams = subst (λ (v : CrewValue). 2 ≤ v.workload.streams) (sym c.self.view_is) c.requires.several in
+    let crew : IsCrew own.workload Z own.steps own = fleet-crew own.workload Z own.steps own several is in
+    let inside : c.in-Some.s < length own.streams = subst (λ k. c.in-Some.s < k) (sym is.fleet_is.streams_are.many) c.in-Some.ensures in
+    record {
+      orders = is.fleet_is.stored;
+      calls = subst (λ (v : CrewValue). CallsStored v.workload (g.P.Work.count c.args.work.now)) (sym c.self.view_is) c.requires.calls;
+      objects = is.fleet_is.workload;
+      fits = (stream-at own.workload Z own.steps c.in-Some.s own several crew inside c.index_mut.result.now c.index_mut.ensures.value).fits;
+      shapes = shapes-at own.workload Z own.steps c.in-Some.s own several crew inside c.index_mut.result.now c.index_mut.ensures.value;
+    }
+
+pub returns : goal.returns
+returns g c =
+    let Z = stored_of c.args.orders.now (g.P.Work.returns c.args.work.now) in
+    let own : CrewValue = fleet_of c.self.inside.w.now c.self.inside.steps c.self.inside.keeps c.self.inside.objects c.self.inside.streams.items in
+    let is : IsFleetOf own_lock clock_at own.workload Z own.steps own = subst (λ (v : CrewValue). IsFleetOf own_lock clock_at v.workload Z v.steps v) (sym c.self.view_is) c.requires.fleet in
+    let several : 2 ≤ own.workload.streams = subst (λ (v : CrewValue). 2 ≤ v.workload.streams) (sym c.self.view_is) c.requires.several in
+    let crew : IsCrew own.workload Z own.steps own = fleet-crew own.workload Z own.steps own several is in
+    let inside : c.in-Some.s < length own.streams = subst (λ k. c.in-Some.s < k) (sym is.fleet_is.streams_are.many) c.in-Some.ensures in
+    let next : CrewValue = with_stream own c.in-Some.s c.go_alone.new.stream c.in_ok-objects.objects in
+    let stays : IsCrew own.workload Z own.steps next = crew-stays own.workload Z own.steps c.in-Some.s own several crew inside c.index_mut.result.now c.index_mut.ensures.value c.go_alone.new.stream c.in_ok-objects.objects c.in_ok-objects.ensures in
+    record {
+      fleet = subst (λ (v : CrewValue). IsFleetOf own_lock clock_at v.workload Z v.steps next) c.self.view_is (crew-fleet own.workload Z own.steps next stays);
+      keeps = ap (λ (v : CrewValue). v.keeps) c.self.view_is;
+    }

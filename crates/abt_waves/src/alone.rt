@@ -1,0 +1,187 @@
+//! What a stream does while no other one has anything to do.
+
+ghost use Rattle.std.specs.Prelude.{◌≡◌, ◌<◌, ◌≤◌, ◌^◌, IfOk, IfSome, OnOk, length};
+ghost use Rattle.abt_machine.specs.Outcomes.{steps_in};
+ghost use Rattle.abt_machine.specs.Rounds.{OrdersStored};
+ghost use Rattle.abt_machine.specs.Stored.{CallsStored};
+ghost use Rattle.abt_order.specs.Stored.{shapes_of, stored_of};
+ghost use Rattle.abt_stream.specs.Streams.{FitsShapes, FitsStream};
+ghost use Rattle.abt_drain.specs.Crews.{TurnsBy};
+ghost use Rattle.abt_waves.specs.Staying.{StaysCrew};
+
+use crate::listing::{Listing, bit};
+use crate::puts::{Puts, noted_turn};
+use abt_commons::{Commons, Objects, Plain, PlainPass};
+use abt_drain::has_empty_pools;
+use abt_machine::{StreamNo, Want, Workload};
+use abt_order::StoredOrder;
+use abt_stream::{Stream, Turn};
+use abt_work::Work;
+use std::alloc::Global;
+use std::sync::Wait;
+
+/// The stream that alone has anything to do. None if no stream has, or more than one.
+pub(crate) fn find_alone<'w>(w: &Workload, objects: &Objects<'w>, streams: &[Stream]) -> Option<u32>
+    requires { objects.now.workload ≡ w.now }
+    ensures { IfSome result (λ s. s < w.now.streams) }
+{
+    let s = first_with_work(w, objects, streams, 0)?;
+    match first_with_work(w, objects, streams, s.saturating_add(1)) {
+        None => Some(s),
+        Some(_) => None,
+    }
+}
+
+// The first stream from this one on that has anything to do.
+fn first_with_work<'w>(
+    w: &Workload,
+    objects: &Objects<'w>,
+    streams: &[Stream],
+    from: u32,
+) -> Option<u32>
+    requires { objects.now.workload ≡ w.now }
+    ensures { IfSome result (λ s. s < w.now.streams) }
+{
+    for s in from..w.streams() {
+        if has_work(w, objects, streams, StreamNo(s)) {
+            return Some(s);
+        }
+    }
+    None
+}
+
+// Whether a stream has anything to do: it is not idle, or a pool that it lists is not empty.
+fn has_work<'w>(w: &Workload, objects: &Objects<'w>, streams: &[Stream], s: StreamNo) -> bool
+    requires objects { objects.now.workload ≡ w.now }
+    requires stream { s.0 < w.now.streams }
+{
+    match streams.get(s.0 as usize) {
+        Some(stream) => !stream.is_idle() || !has_empty_pools(w, objects, s),
+        None => false,
+    }
+}
+
+/// The turns of stream `s` over objects without locks, until it puts a unit into a pool that another stream lists, finds nothing, or is
+/// spent. Err: out of memory.
+pub(crate) fn go_alone<'w, R: Wait, P: Work>(
+    rt: &R,
+    alloc: Global,
+    w: &Workload,
+    orders: &[StoredOrder],
+    work: &P,
+    s: u32,
+    objects: Objects<'w>,
+    stream: &mut Stream,
+) -> Result<Objects<'w>, Want>
+    requires orders { OrdersStored w.now (shapes_of orders.now) }
+    requires calls { CallsStored w.now (P.count work.now) }
+    requires objects { objects.workload ≡ w.now }
+    requires fits { FitsStream w.now stream.old }
+    requires shapes { FitsShapes w.now (stored_of orders.now (P.returns work.now)) stream.old }
+    ensures { IfOk result (λ left. StaysCrew w.now (stored_of orders.now (P.returns work.now)) stream.old objects.entry stream.new left) }
+{
+    let listing = Listing::new(alloc, w)?;
+    let (plain, mut pass) = Plain::make(objects);
+    turns(
+        rt,
+        w,
+        orders,
+        work,
+        &listing,
+        bit(s),
+        &plain,
+        &mut pass,
+        stream,
+    )?;
+    closed(alloc, plain, pass)
+}
+
+// The objects that the pass holds. Err: out of memory.
+fn closed<'w>(alloc: Global, plain: Plain<'w>, pass: PlainPass<'w>) -> Result<Objects<'w>, Want>
+    requires { pass.workload ≡ plain }
+    ensures { IfOk result (λ objects. objects ≡ pass.entry) }
+{
+    Ok(plain.close(vec![in alloc; pass]?))
+}
+
+// The turns of the stream of this bit.
+fn turns<'w, R: Wait, P: Work>(
+    rt: &R,
+    w: &Workload,
+    orders: &[StoredOrder],
+    work: &P,
+    listing: &Listing,
+    bit: u64,
+    plain: &Plain<'w>,
+    pass: &mut PlainPass<'w>,
+    stream: &mut Stream,
+) -> Result<(), Want>
+    requires orders { OrdersStored w.now (shapes_of orders.now) }
+    requires calls { CallsStored w.now (P.count work.now) }
+    requires plain { plain.now ≡ w.now }
+    requires pass { pass.old.workload ≡ w.now }
+    requires fits { FitsStream w.now stream.old }
+    requires shapes { FitsShapes w.now (stored_of orders.now (P.returns work.now)) stream.old }
+    ensures stays { OnOk result (StaysCrew w.now (stored_of orders.now (P.returns work.now)) stream.old pass.old stream.new pass.new) }
+    ensures pass { OnOk result (pass.new.workload ≡ w.now) }
+{
+    let puts = Puts::new();
+    'turns: for _ in rt.forever() {
+        let turn = advance(rt, w, orders, work, &puts, plain, pass, stream)?;
+        if stops(turn, stream, listing, bit, &puts) {
+            return Ok(());
+        }
+    }
+    unreachable!()
+}
+
+// Whether the stream of this bit stops after this turn: it finds nothing, may make no other turn, or has put a unit into a pool that
+// another stream lists.
+#[inline(always)]
+fn stops(turn: Turn, stream: &Stream, listing: &Listing, bit: u64, puts: &Puts) -> bool {
+    match turn {
+        Turn::Spent | Turn::Worn => true,
+        Turn::EmptyRound => stream.is_idle(),
+        Turn::Stepped => false,
+        Turn::Moved => match puts.take() {
+            Some(p) => listing.of(p) & !bit != 0,
+            None => false,
+        },
+    }
+}
+
+// Takes the memory that one turn of a stream needs, and makes the turn.
+#[inline(always)]
+fn advance<'w, R: Wait, P: Work>(
+    rt: &R,
+    w: &Workload,
+    orders: &[StoredOrder],
+    work: &P,
+    puts: &Puts,
+    plain: &Plain<'w>,
+    pass: &mut PlainPass<'w>,
+    stream: &mut Stream,
+) -> Result<Turn, Want>
+    requires orders { OrdersStored w.now (shapes_of orders.now) }
+    requires calls { CallsStored w.now (P.count work.now) }
+    requires plain { plain.now ≡ w.now }
+    requires pass { pass.old.workload ≡ w.now }
+    requires fits { FitsStream w.now stream.old }
+    requires shapes { FitsShapes w.now (stored_of orders.now (P.returns work.now)) stream.old }
+    ensures turn { IfOk result (λ turn. TurnsBy w.now (stored_of orders.now (P.returns work.now)) stream.old pass.old turn stream.new pass.new) }
+    ensures fits { OnOk result (FitsStream w.now stream.new) }
+    ensures shapes { OnOk result (FitsShapes w.now (stored_of orders.now (P.returns work.now)) stream.new) }
+    ensures number { OnOk result (stream.new.number ≡ stream.old.number) }
+    ensures keeps { OnOk result (stream.new.keeps ≡ stream.old.keeps) }
+    ensures budget { OnOk result (stream.new.budget ≡ stream.old.budget) }
+    ensures few { OnOk result (length stream.new.log ≤ 2 ^ 55) }
+    ensures within { OnOk result (steps_in stream.new.log ≤ stream.new.budget) }
+    ensures pass { OnOk result (pass.new.workload ≡ w.now) }
+{
+    w.known();
+    stream.prepare(w, orders)?;
+    let turn = noted_turn(rt, plain, puts, stream, pass, w, work);
+    // The number of steps is of no use here, but its contract says that the stream made no more than it may make.
+    stream.steps();
+    Ok(turn)
+}
