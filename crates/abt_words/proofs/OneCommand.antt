@@ -1,16 +1,21 @@
 -- Words say at most one command.
-use Rattle.std.proofs.Common.{◌≡◌, ℕ, Bool, true, false, refl, sym, ap, ap₂, subst, ◌∙◌, List, [], ◌∷◌, Option, Some, None, codes, arith}
+use Rattle.std.proofs.Common.{◌≡◌, ℕ, Bool, refl, sym, ap, subst, ◌∙◌, List, [], ◌∷◌, Option, Some, None, codes}
 use Rattle.std.specs.Str.Parse.{digits_value}
 use Rattle.std.specs.Prelude.{IfOk, Result, Ok, Err}
 use Rattle.abt_words.specs.declared.fault.WordFault.{WordFault}
 use Rattle.abt_words.specs.declared.commands.Command.{Command}
 use Rattle.abt_words.specs.declared.commands.Command.TheVariants as command
+use Rattle.abt_words.specs.declared.commands.CheckWords.{CheckWords}
+use Rattle.abt_words.specs.declared.commands.ExploreWords.{ExploreWords}
+use Rattle.abt_words.specs.declared.commands.RunWords.{RunWords}
+use Rattle.abt_words.specs.declared.commands.Schedule.{Schedule}
 use Rattle.abt_machine.specs.Words.{Text}
 use Rattle.abt_machine.specs.declared.grammar.Format.TheVariants as format
 use Rattle.abt_machine.specs.Spelling.{SaysNumber}
-use Rattle.abt_words.specs.Commands.{Rest, Says, SaysAtMostOne, SaysBy, SaysExplore, SaysFile, SaysFiles, SaysRun, SaysSelf, journal_count, only, rest_of, state_limit}
+use Rattle.abt_words.specs.Commands.{Says, SaysAtMostOne, SaysBy, SaysCheck, SaysExplore, SaysFile, SaysFlag, SaysRun, SaysSchedule, SaysSelf, explore_options, run_options, state_limit}
+use Rattle.abt_words.specs.Rests.{Rest, rest_of}
 use Rattle.abt_words.specs.Steps.{step_limit_of}
-use Rattle.abt_words.proofs.Names.{by-check, by-explore, by-flow, by-run, by-self}
+use Rattle.abt_words.proofs.CommandNames.{by-check, by-explore, by-flow, by-help, by-run, by-self, by-version}
 
 head-of : (x y : Text) (xs ys : List Text) → x ∷ xs ≡ y ∷ ys → x ≡ y
 head-of x y xs ys e = cc
@@ -28,64 +33,94 @@ one-asked most (v ∷ []) (Some m) None a b = absurd b
 one-asked most (v ∷ []) (Some m) (Some n) a b = ap (λ (k : ℕ). Some k) (one-number most v m n a b)
 one-asked most (v ∷ w ∷ vs) m n a b = absurd a
 
-one-journal : (j k : Bool) → journal_count j ≡ journal_count k → j ≡ k
-one-journal true true e = refl
-one-journal true false e = absurd (omega (arith, e))
-one-journal false true e = absurd (omega (arith, e))
-one-journal false false e = refl
+one-flag : (vs : List Text) (j k : Bool) → SaysFlag vs j → SaysFlag vs k → j ≡ k
+one-flag [] j k a b = a ∙ sym b
+one-flag (v ∷ []) j k a b = a ∙ sym b
+one-flag (v ∷ w ∷ vs) j k a b = absurd a
 
-module _ (r : Rest) where
-  one-run : (f : Text) (m : Option ℕ) (j : Bool) → SaysRun r f m j → (d : Command) → SaysBy (codes "run") r d → command.Run f m j ≡ d
-  one-run f m j a = by-run r (λ d. command.Run f m j ≡ d) (λ g n k b.
-      let file : f ≡ g = head-of f g [] [] (sym a.0 ∙ b.0) in
-      let steps : m ≡ n = one-asked (step_limit_of format.Three) r.steps m n a.2 b.2 in
-      let journal : j ≡ k = one-journal j k (sym a.3 ∙ b.3) in
-      λ i. command.Run (file i) (steps i) (journal i))
+one-schedule : (vs : List Text) (s t : Schedule) → SaysSchedule vs s → SaysSchedule vs t → s ≡ t
+one-schedule [] s t a b = a ∙ sym b
+one-schedule (v ∷ []) s t a b = a ∙ sym b
+one-schedule (v ∷ w ∷ vs) s t a b = absurd a
 
-  one-self : (m : ℕ) → SaysSelf r m → (d : Command) → SaysBy (codes "self") r d → command.SelfRun m ≡ d
-  one-self m a = by-self r (λ d. command.SelfRun m ≡ d) (λ n b.
-      let word : a.0 ≡ b.0 = head-of a.0 b.0 [] [] (ap (λ (r : Rest). r.words) (sym a.1 ∙ b.1)) in
+module _ (ws : List Text) where
+  one-run : (w : RunWords) → SaysRun (rest_of run_options None ws) w → (d : Command) → SaysBy (codes "run") ws d → command.Run w ≡ d
+  one-run w a = by-run ws (λ d. command.Run w ≡ d) (λ x b.
+      let r = rest_of run_options None ws in
+      let file : w.file ≡ x.file = head-of w.file x.file [] [] (sym a.0.0 ∙ b.0.0) in
+      let steps : w.steps ≡ x.steps = one-asked (step_limit_of format.Three) (r.given (codes "steps")) w.steps x.steps a.2 b.2 in
+      let journal : w.journal ≡ x.journal = one-flag (r.given (codes "journal")) w.journal x.journal a.3 b.3 in
+      let why : w.why ≡ x.why = one-flag (r.given (codes "why")) w.why x.why a.4 b.4 in
+      let schedule : w.schedule ≡ x.schedule = one-schedule (r.given (codes "in-turn")) w.schedule x.schedule a.5 b.5 in
+      λ i. command.Run (record { file = file i; steps = steps i; journal = journal i; why = why i; schedule = schedule i }))
+
+  one-self : (m : ℕ) → SaysSelf (rest_of [] None ws) m → (d : Command) → SaysBy (codes "self") ws d → command.SelfRun m ≡ d
+  one-self m a = by-self ws (λ d. command.SelfRun m ≡ d) (λ n b.
+      let word : a.0 ≡ b.0 = head-of a.0 b.0 [] [] (sym a.1.0 ∙ b.1.0) in
       ap (λ (u : ℕ). command.SelfRun u) (a.2.1 ∙ (ap (digits_value 10) word ∙ sym b.2.1)))
 
-  one-check : (w j : Text) → SaysFiles r w j → (d : Command) → SaysBy (codes "check") r d → command.Check w j ≡ d
-  one-check w j a = by-check r (λ d. command.Check w j ≡ d) (λ v k b.
-      let words : w ∷ j ∷ [] ≡ v ∷ k ∷ [] = ap (λ (r : Rest). r.words) (sym a.0 ∙ b.0) in
-      ap₂ (λ (v k : Text). command.Check v k) (head-of w v _ _ words) (head-of j k [] [] (tail-of w v _ _ words)))
+  one-check : (w : CheckWords) → SaysCheck (rest_of [] None ws) w → (d : Command) → SaysBy (codes "check") ws d → command.Check w ≡ d
+  one-check w a = by-check ws (λ d. command.Check w ≡ d) (λ x b.
+      let words : w.workload ∷ w.journal ∷ [] ≡ x.workload ∷ x.journal ∷ [] = sym a.0.0 ∙ b.0.0 in
+      let workload : w.workload ≡ x.workload = head-of w.workload x.workload _ _ words in
+      let journal : w.journal ≡ x.journal = head-of w.journal x.journal [] [] (tail-of w.workload x.workload _ _ words) in
+      λ i. command.Check (record { workload = workload i; journal = journal i }))
 
-  one-flow : (f : Text) → SaysFile r f → (d : Command) → SaysBy (codes "flow") r d → command.Flow f ≡ d
-  one-flow f a = by-flow r (λ d. command.Flow f ≡ d) (λ g b.
-      ap (λ (f : Text). command.Flow f) (head-of f g [] [] (ap (λ (r : Rest). r.words) (sym a.0 ∙ b.0))))
+  one-flow : (f : Text) → SaysFile (rest_of [] None ws) f → (d : Command) → SaysBy (codes "flow") ws d → command.Flow f ≡ d
+  one-flow f a = by-flow ws (λ d. command.Flow f ≡ d) (λ g b. ap (λ (f : Text). command.Flow f) (head-of f g [] [] (sym a.0.0 ∙ b.0.0)))
 
-  one-explore : (f : Text) (e : Option ℕ) → SaysExplore r f e → (d : Command) → SaysBy (codes "explore") r d → command.Explore f e ≡ d
-  one-explore f e a = by-explore r (λ d. command.Explore f e ≡ d) (λ g k b.
-      let words : f ∷ a.0 ≡ g ∷ b.0 = ap (λ (r : Rest). r.words) (sym a.1 ∙ b.1) in
-      let ends : a.0 ≡ b.0 = tail-of f g a.0 b.0 words in
-      let same : SaysAtMostOne state_limit a.0 k = subst (λ (ws : List Text). SaysAtMostOne state_limit ws k) (sym ends) b.3 in
-      ap₂ (λ (t : Text) (o : Option ℕ). command.Explore t o) (head-of f g a.0 b.0 words) (one-asked state_limit a.0 e k a.3 same))
+  one-explore : (w : ExploreWords) → SaysExplore (rest_of explore_options None ws) w → (d : Command) → SaysBy (codes "explore") ws d → command.Explore w ≡ d
+  one-explore w a = by-explore ws (λ d. command.Explore w ≡ d) (λ x b.
+      let r = rest_of explore_options None ws in
+      let file : w.file ≡ x.file = head-of w.file x.file [] [] (sym a.0.0.0 ∙ b.0.0.0) in
+      let states : w.states ≡ x.states = one-asked state_limit (r.given (codes "states")) w.states x.states a.1 b.1 in
+      let end : w.end ≡ x.end = one-asked state_limit (r.given (codes "end")) w.end x.end a.2 b.2 in
+      let journal : w.journal ≡ x.journal = one-flag (r.given (codes "journal")) w.journal x.journal a.3 b.3 in
+      λ i. command.Explore (record { file = file i; states = states i; end = end i; journal = journal i }))
 
-  one-by : (name : Text) (c d : Command) → SaysBy name r c → SaysBy name r d → c ≡ d
-  one-by name (command.Run f n j) d a b = one-run f n j a.1 d (sym a.0 ∙ b.0, b.1)
+  one-by : (name : Text) (c d : Command) → SaysBy name ws c → SaysBy name ws d → c ≡ d
+  one-by name (command.Run w) d a b = one-run w a.1 d (sym a.0 ∙ b.0, b.1)
   one-by name (command.SelfRun n) d a b = one-self n a.1 d (sym a.0 ∙ b.0, b.1)
-  one-by name (command.Check w j) d a b = one-check w j a.1 d (sym a.0 ∙ b.0, b.1)
+  one-by name (command.Check w) d a b = one-check w a.1 d (sym a.0 ∙ b.0, b.1)
   one-by name (command.Flow f) d a b = one-flow f a.1 d (sym a.0 ∙ b.0, b.1)
-  one-by name (command.Explore f e) d a b = one-explore f e a.1 d (sym a.0 ∙ b.0, b.1)
+  one-by name (command.Explore w) d a b = one-explore w a.1 d (sym a.0 ∙ b.0, b.1)
+  one-by name command.Help d a b = by-help ws (λ d. command.Help ≡ d) (λ none. refl) d (sym a.0 ∙ b.0, b.1)
+  one-by name command.Version d a b = by-version ws (λ d. command.Version ≡ d) (λ none. refl) d (sym a.0 ∙ b.0, b.1)
 
 pub one-command : (words : List Text) (c d : Command) → Says words c → Says words d → c ≡ d
 one-command [] c d a b = absurd a
-one-command (name ∷ ws) c d a b = one-by (rest_of false ws) name c d a b
+one-command (name ∷ ws) c d a b = one-by ws name c d a b
 
 -- ---- from the rest to the words
 
 module _ (words : List Text) (name : Text) (rest : List Text) (are : words ≡ name ∷ rest) (given : Text) (is : name ≡ given) where
-  by-says : (c : Command) → SaysBy given (rest_of false rest) c → Says words c
+  by-says : (c : Command) → SaysBy given rest c → Says words c
   by-says c says = subst (λ (l : List Text). Says l c) (sym are) (is ∙ says.0, says.1)
 
-  says-by : (c : Command) → Says words c → SaysBy given (rest_of false rest) c
+  says-by : (c : Command) → Says words c → SaysBy given rest c
   says-by c says = let at = subst (λ (l : List Text). Says l c) are says in (sym is ∙ at.0, at.1)
 
-  pub by-only : (r : Result Command WordFault) → IfOk r (SaysBy given (rest_of false rest)) → IfOk r (λ c. (d : Command) → Says words d → d ≡ c)
+  pub by-only : (r : Result Command WordFault) → IfOk r (SaysBy given rest) → IfOk r (λ c. (d : Command) → Says words d → d ≡ c)
   by-only (Ok c) says = λ d other. one-command words d c other (by-says c says)
   by-only (Err e) says = says
 
-  pub by-bad : ((c : Command) → SaysBy given (rest_of false rest) c → ⊥) → (c : Command) → Says words c → ⊥
+  pub by-bad : ((c : Command) → SaysBy given rest c → ⊥) → (c : Command) → Says words c → ⊥
   by-bad h c says = h c (says-by c says)
+
+-- ---- from what was found to the rest of the command
+
+module _ (ws : List Text) (r : Rest) where
+  pub no-run : rest_of run_options None ws ≡ r → ((w : RunWords) → SaysRun r w → ⊥) → (c : Command) → SaysBy (codes "run") ws c → ⊥
+  no-run is none = by-run ws (λ c. ⊥) (λ w says. none w (subst (λ (r : Rest). SaysRun r w) is says))
+
+  pub no-self : rest_of [] None ws ≡ r → ((n : ℕ) → SaysSelf r n → ⊥) → (c : Command) → SaysBy (codes "self") ws c → ⊥
+  no-self is none = by-self ws (λ c. ⊥) (λ n says. none n (subst (λ (r : Rest). SaysSelf r n) is says))
+
+  pub no-check : rest_of [] None ws ≡ r → ((w : CheckWords) → SaysCheck r w → ⊥) → (c : Command) → SaysBy (codes "check") ws c → ⊥
+  no-check is none = by-check ws (λ c. ⊥) (λ w says. none w (subst (λ (r : Rest). SaysCheck r w) is says))
+
+  pub no-flow : rest_of [] None ws ≡ r → ((f : Text) → SaysFile r f → ⊥) → (c : Command) → SaysBy (codes "flow") ws c → ⊥
+  no-flow is none = by-flow ws (λ c. ⊥) (λ f says. none f (subst (λ (r : Rest). SaysFile r f) is says))
+
+  pub no-explore : rest_of explore_options None ws ≡ r → ((w : ExploreWords) → SaysExplore r w → ⊥) → (c : Command) → SaysBy (codes "explore") ws c → ⊥
+  no-explore is none = by-explore ws (λ c. ⊥) (λ w says. none w (subst (λ (r : Rest). SaysExplore r w) is says))

@@ -1,261 +1,265 @@
--- `clap` takes the words after `run` exactly if they are a FILE and the options, each at most once.
-use Rattle.std.proofs.Common.{◌≡◌, ◌≢◌, ℕ, zero, suc, Bool, cond, true, false, true≢false, refl, sym, ap, subst, ◌∙◌, List, [], ◌∷◌, ◌++◌, codes, Option, Some, None, is_some}
-use Rattle.clap.specs.Faults.{check_fault, defaults_fault, fault_of, turn_fault, walk_fault}
+-- `clap` takes the words exactly if the command has all their options, and finds what their rest has.
+use Rattle.std.proofs.Common.{◌≡◌, ◌≢◌, ◌∙◌, ℕ, Bool, cond, true, false, refl, sym, ap, subst, List, [], ◌∷◌, ◌++◌, append-nil, append_assoc, codes, Option, Some, None}
+use Rattle.std.specs.Str.{bytes_eq}
+use Rattle.clap.specs.Faults.{check_fault, defaults_fault, settle_fault, turn_fault, walk_fault}
+use Rattle.clap.specs.Simple.{Shape}
 use Rattle.clap.specs.Kinds.{Kinds, or_else}
-use Rattle.clap.specs.Walk.{Row, Walk, finished, nothing_held, used, walked}
-use Rattle.clap.specs.Words.{matches_of}
+use Rattle.clap.specs.Lexer.{name_and_value}
+use Rattle.clap.specs.Walk.{Row, Rule, Waiting, Walk, finished, idle, option, positional, settled_rows, walked}
+use Rattle.clap.specs.declared.builder.value_parser.Reading.TheVariants.{AsWritten}
 use Rattle.clap.specs.declared.error.kind.ErrorKind.{ErrorKind}
 use Rattle.clap.specs.declared.error.kind.ErrorKind.TheVariants.{InvalidValue}
-use Rattle.clap.proofs.FaultLemmas.{leaf_fault, past}
-use Rattle.clap.specs.Simple.{built}
+use Rattle.clap.specs.declared.parser.matches.ValueSource.TheVariants.{CommandLine}
+use Rattle.clap.proofs.FaultLemmas.{past}
 use Rattle.abt_machine.specs.Words.{Text}
-use Rattle.abt_words.specs.Commands.{Rest, and_journal, and_other, and_steps, and_word, is_option, only, rest_of}
-use Rattle.abt_words.specs.Apps.{run_app}
+use Rattle.abt_words.specs.Rests.{Options, Rest, and_option, and_other, and_word, is_option, only, rest_of, takes_value, with_option}
 use Rattle.abt_words.proofs.Endings.{AllTexts, ending, fails, goes, last, lasts, no-cons, no-more}
-use Rattle.abt_words.proofs.Spellings.{Spelling, ends, journal, journal_value, long, plain, rest-long, rest-plain, rest-short, short, spelling, steps, steps_value}
-use Rattle.abt_words.proofs.Turns.{Pending, all_rows, due-turn, due-walked, ends-turn, held, journal_built, journal-fault, journal-turn, journal-twice, journal-value-fault, journal-walked, later-first, later-second, later-walked, long-unknown, pending_fault, plain-first, plain-second, plain-walked, run_rules, run_top, short-unknown, state, steps_built, steps-fault, steps-turn, steps-walked, value-fault, value-turn, value-twice, value-walked}
-use Rattle.abt_words.proofs.Rows.{Ends, Live, Seen, Shows, check-is, last-ends, last-is, last_rows, live-file, live-journal, live-steps, live-value, missing, no-default-fault, no-row, some-row, steps-again}
+use Rattle.abt_words.proofs.Lists.{values-added, values_in}
+use Rattle.abt_words.proofs.Names.{not-same, same-name}
+use Rattle.abt_words.proofs.Rules.{Knows, shape_with}
+use Rattle.abt_words.proofs.Spellings.{Spelling, ends, long, plain, rest-plain, rest-short, short, spelling}
+use Rattle.abt_words.proofs.Turns.{Pending, due-turn, due-walk, ends-turn, flag-turn, flag-value-turn, flag-walk, free, held, later-turn, later-walk, no-value-pending, plain-turn, plain-walk, short-turn, state, taken-turn, taken-walk, unknown-turn, value-pending, value-turn, value-walk, with_value, word-pending}
 
-fault-is-ending : (words : List Text) → fault_of run_app words ≡ ending run_top (state [] None false 1 false) words
-fault-is-ending words = leaf_fault (built run_app) nothing_held words refl
+-- the values of each argument
+abbrev pub Values : Type 0
+Values = Text → List Text
 
--- what was said and what the rest says, together
-abbrev pub Joins : Option Text → List Text → Option Text → Type 0
-Joins o [] all = all ≡ o
-Joins None (w ∷ ws) all = Joins (Some w) ws all
-Joins (Some v) (w ∷ ws) all = ⊥
+-- with one more value
+abbrev pub add : Text → Text → Values → Values
+add name v f id = cond (bytes_eq name id) (f id ++ v ∷ []) (f id)
 
-abbrev pub JoinsFlag : Bool → ℕ → Bool → Type 0
-JoinsFlag b zero all = all ≡ b
-JoinsFlag false (suc n) all = JoinsFlag true n all
-JoinsFlag true (suc n) all = ⊥
+abbrev pub in_rest : Rest → Values
+in_rest r id = cond (bytes_eq (codes "words") id) r.words (r.given id)
 
-abbrev pub Total : Seen → Rest → Seen → Type 0
-Total s r all = Joins s.file r.words all.file × Joins s.steps r.steps all.steps × JoinsFlag s.journal r.journals all.journal × (r.others ≡ 0)
+and-word : (w : Text) (f : Values) (r : Rest) (id : Text) → add (codes "words") w f id ++ in_rest r id ≡ f id ++ in_rest (and_word w r) id
+and-word w f r id = by (bytes_eq (codes "words") id)
+  where
+    by : (b : Bool) → cond b (f id ++ w ∷ []) (f id) ++ cond b r.words (r.given id) ≡ f id ++ cond b (w ∷ r.words) (r.given id)
+    by true = append_assoc (f id) (w ∷ []) r.words
+    by false = refl
 
--- `clap` takes the words exactly if both say a FILE and each option at most once, and then its matches say the same
-pub record Outcome (w : Walk) (words : List Text) (s : Seen) (r : Rest) : Type 0 where
-  pub taken : ending run_top w words ≡ [] → (all : Seen) × Total s r all × (is_some all.file ≡ true) × Ends (last run_top w words) all
-  pub takes : (all : Seen) → Total s r all → is_some all.file ≡ true → ending run_top w words ≡ []
+and-option : (name v : Text) (f : Values) (r : Rest) (id : Text) → bytes_eq name (codes "words") ≡ false
+    → add name v f id ++ in_rest r id ≡ f id ++ in_rest (and_option name v r) id
+and-option name v f r id apart = by (bytes_eq name id) (bytes_eq (codes "words") id) refl refl
+  where
+    by : (a b : Bool) → bytes_eq name id ≡ a → bytes_eq (codes "words") id ≡ b
+        → cond a (f id ++ v ∷ []) (f id) ++ cond b r.words (r.given id) ≡ f id ++ cond b r.words (cond a (v ∷ r.given id) (r.given id))
+    by true true e g = absurd (not-same name (codes "words") apart (same-name name id e ∙ sym (same-name (codes "words") id g)))
+    by true false e g = append_assoc (f id) (v ∷ []) (r.given id)
+    by false b e g = refl
 
-refuses : (w : Walk) (words : List Text) (s : Seen) (r : Rest) → (ending run_top w words ≢ []) → ((all : Seen) → Total s r all → ⊥) → Outcome w words s r
-refuses w words s r bad none = record {
-  taken = λ e. absurd (bad e);
-  takes = λ all t file. absurd (none all t);
-}
+-- the name of the words is no option's
+no-words : (name v : Text) (r : Rest) → bytes_eq name (codes "words") ≡ false → r.given (codes "words") ≡ [] → (and_option name v r).given (codes "words") ≡ []
+no-words name v r apart e = ap (λ (b : Bool). cond b (v ∷ r.given (codes "words")) (r.given (codes "words"))) apart ∙ e
 
-moves : (w next : Walk) (x : Text) (words : List Text) (s t : Seen) (r rest : Rest) → turn_fault run_top [] w x ≡ [] → walked run_rules [] w x ≡ next
-    → ((all : Seen) → Total s r all → Total t rest all) → ((all : Seen) → Total t rest all → Total s r all)
-    → Outcome next words t rest → Outcome w (x ∷ words) s r
-moves w next x words s t r rest e f to from o = record {
-  taken = λ h. let got = o.taken (sym (goes run_top w next x words e f) ∙ h) in
-      (got.0, from got.0 got.1, got.2, subst (λ (l : List Row). Ends l got.0) (sym (lasts run_top w next x words f)) got.3);
-  takes = λ all total file. goes run_top w next x words e f ∙ o.takes all (to all total) file;
-}
+module _ (table : Options) (rules : List Rule) (k : Knows table rules) where
+  abbrev top : Shape
+  top = shape_with rules
 
--- the position of the next word that is no option
-abbrev pub place : Option Text → ℕ
-place None = 1
-place (Some f) = 2
+  -- the faults of what is pending, and the rows with it
+  abbrev pending_fault : List Row → Pending → Kinds
+  pending_fault rows q = settle_fault rules false (held rows q)
 
--- ---- the end of the words
+  abbrev all_rows : List Row → Pending → List Row
+  all_rows rows q = settled_rows rules q rows
 
-missing-not : (f : Option Text) → missing f ≡ [] → is_some f ≡ true
-missing-not None e = cc
-missing-not (Some f) e = refl
+  -- nothing is wrong so far, and the rows have these values
+  record Live (rows : List Row) (q : Pending) (f : Values) : Type 0 where
+    clean : pending_fault rows q ≡ []
+    shows : (id : Text) → values_in id (all_rows rows q) ≡ f id
 
-not-missing : (f : Option Text) → is_some f ≡ true → missing f ≡ []
-not-missing None e = absurd (true≢false (sym e))
-not-missing (Some f) e = refl
+  -- `clap` takes the words exactly if there are no others, and then its matches have the values so far and those of the rest
+  pub record Outcome (w : Walk) (words : List Text) (f : Values) (r : Rest) : Type 0 where
+    pub taken : ending top w words ≡ [] → (r.others ≡ 0) × ((id : Text) → values_in id (last top w words) ≡ f id ++ in_rest r id) × (r.given (codes "words") ≡ [])
+    pub takes : r.others ≡ 0 → ending top w words ≡ []
 
-module _ (rows : List Row) (q : Pending) (f v : Option Text) (j : Bool) (due : Bool) (p : ℕ) (t : Bool) where
-  abbrev said : Seen
-  said = record { file = f; steps = v; journal = j }
-
-  last-here : Shows (all_rows rows q) said → last run_top (state rows q due p t) [] ≡ last_rows (all_rows rows q) j
-  last-here h = last-is (all_rows rows q) f v j h
-
-  end-fault : Live rows q said → ending run_top (state rows q due p t) [] ≡ missing f
-  unfolding walk_fault
-  end-fault live = past _ _ live.clean ∙ past _ _ (no-default-fault (all_rows rows q))
-      ∙ ap (λ (l : List Row). check_fault run_top l false) (last-here live.shows) ∙ check-is (all_rows rows q) f v j live.shows
-
-  at-end : Live rows q said → Outcome (state rows q due p t) [] said (only [])
-  at-end live = record {
-    taken = λ e. (
-      said,
-      (refl, refl, refl, refl),
-      missing-not f (sym (end-fault live) ∙ e),
-      subst (λ (l : List Row). Ends l said) (sym (last-here live.shows)) (last-ends (all_rows rows q) f v j live.shows),
-    );
-    takes = λ all total file. end-fault live ∙ not-missing f (ap is_some (sym total.0) ∙ file);
+  refuses : (w : Walk) (words : List Text) (f : Values) (r : Rest) → (ending top w words ≢ []) → (r.others ≡ 0 → ⊥) → Outcome w words f r
+  refuses w words f r bad none = record {
+    taken = λ e. absurd (bad e);
+    takes = λ e. absurd (none e);
   }
 
-  pending-ends : (k : ErrorKind) (ks : Kinds) → pending_fault rows q ≡ k ∷ ks → ending run_top (state rows q due p t) [] ≢ []
-  unfolding walk_fault
-  pending-ends k ks e h = no-cons k _ (sym (ap (λ (l : Kinds). or_else l (or_else (defaults_fault (all_rows rows q) run_rules) (check_fault run_top (finished run_rules (held rows q)) false))) e) ∙ h)
+  moves : (w next : Walk) (x : Text) (words : List Text) (f g : Values) (r rest : Rest) → turn_fault top [] w x ≡ [] → walked rules [] w x ≡ next
+      → rest.others ≡ r.others → ((id : Text) → g id ++ in_rest rest id ≡ f id ++ in_rest r id) → (rest.given (codes "words") ≡ [] → r.given (codes "words") ≡ [])
+      → Outcome next words g rest → Outcome w (x ∷ words) f r
+  moves w next x words f g r rest e step others same given o = record {
+    taken = λ h. let got = o.taken (sym (goes top w next x words e step) ∙ h) in
+        (sym others ∙ got.0, (λ id. ap (values_in id) (lasts top w next x words step) ∙ got.1 id ∙ same id), given got.2);
+    takes = λ none. goes top w next x words e step ∙ o.takes (others ∙ none);
+  }
 
--- ---- after `--`
+  -- ---- what is live
 
--- what is pending fails, whatever follows
-doomed-later : (rows : List Row) (q : Pending) (f : Option Text) (due : Bool) (k : ErrorKind) (ks : Kinds) (words : List Text) → pending_fault rows q ≡ k ∷ ks
-    → ending run_top (state rows q due (place f) true) words ≢ []
-doomed-later rows q f due k ks [] e = pending-ends rows q f None false due (place f) true k ks e
-doomed-later rows q None due k ks (x ∷ words) e = fails run_top _ x words k ks (later-first rows q x due ∙ e)
-doomed-later rows q (Some f) due k ks (x ∷ words) e = fails run_top _ x words _ [] (later-second rows q x due)
+  added : (name v : Text) (rows : List Row) (f : Values) → ((id : Text) → values_in id rows ≡ f id) → (id : Text) → values_in id (with_value name v rows) ≡ add name v f id
+  added name v rows f shows id = values-added id name AsWritten CommandLine (v ∷ []) rows ∙ ap (λ (l : List Text). cond (bytes_eq name id) (l ++ v ∷ []) l) (shows id)
 
-later : (rows : List Row) (q : Pending) (f v : Option Text) (j : Bool) (words : List Text) → Live rows q (record { file = f; steps = v; journal = j })
-    → Outcome (state rows q false (place f) true) words (record { file = f; steps = v; journal = j }) (only words)
-later rows q f v j [] live = at-end rows q f v j false (place f) true live
-later rows q None v j (x ∷ words) live = moves _ _ x words _ (record { file = Some x; steps = v; journal = j }) _ (only words)
-    (later-first rows q x false ∙ live.clean) (later-walked rows q x) (λ all t. t) (λ all t. t)
-    (later (all_rows rows q) (Some (codes "file", x ∷ [])) (Some x) v j words (live-file (all_rows rows q) None v j x live.shows))
-later rows q (Some f) v j (x ∷ words) live = refuses _ _ _ _ (fails run_top _ x words _ [] (later-second rows q x false)) (λ all t. t.0)
+  live-word : (rows : List Row) (q : Pending) (f : Values) (w : Text) → Live rows q f → Live (all_rows rows q) (Some (codes "words", w ∷ [])) (add (codes "words") w f)
+  live-word rows q f w live = record {
+    clean = (word-pending table rules k w (all_rows rows q)).0;
+    shows = λ id. ap (values_in id) (word-pending table rules k w (all_rows rows q)).1 ∙ added (codes "words") w (all_rows rows q) f live.shows id;
+  }
 
--- ---- before it
+  live-value : (name v : Text) (rows : List Row) (q : Pending) (f : Values) → Live rows q f → Live (with_value name v (all_rows rows q)) None (add name v f)
+  live-value name v rows q f live = record {
+    clean = refl;
+    shows = added name v (all_rows rows q) f live.shows;
+  }
 
-doomed : (rows : List Row) (q : Pending) (f : Option Text) (k : ErrorKind) (ks : Kinds) (words : List Text) → AllTexts words → pending_fault rows q ≡ k ∷ ks
-    → ending run_top (state rows q false (place f) false) words ≢ []
-doomed rows q f k ks [] texts e = pending-ends rows q f None false false (place f) false k ks e
-doomed rows q f k ks (x ∷ words) texts e = by (spelling x texts.0)
-  where
-    plainly : (f : Option Text) → is_option x ≡ false → ending run_top (state rows q false (place f) false) (x ∷ words) ≢ []
-    plainly None o = fails run_top _ x words k ks (plain-first rows q x o ∙ e)
-    plainly (Some f) o = fails run_top _ x words _ [] (plain-second rows q x o)
+  live-taken : (name v : Text) (rows : List Row) (f : Values) → takes_value table name ≡ Some true → ((id : Text) → values_in id rows ≡ f id)
+      → Live rows (Some (name, v ∷ [])) (add name v f)
+  live-taken name v rows f is shows = record {
+    clean = (value-pending table rules k name v rows is).0;
+    shows = λ id. ap (values_in id) (value-pending table rules k name v rows is).1 ∙ added name v rows f shows id;
+  }
 
-    by : Spelling x → ending run_top (state rows q false (place f) false) (x ∷ words) ≢ []
-    by (plain o) = plainly f o
-    by (ends is) = subst (λ (x : Text). ending run_top (state rows q false (place f) false) (x ∷ words) ≢ []) (sym is)
-        (λ h. doomed-later rows q f false k ks words e
-        (sym (goes run_top _ _ (codes "--") words (ends-turn rows q (place f) false).0 (ends-turn rows q (place f) false).1) ∙ h))
-    by (journal is) = subst (λ (x : Text). ending run_top (state rows q false (place f) false) (x ∷ words) ≢ []) (sym is)
-        (fails run_top _ _ words k ks (journal-fault rows q (place f) false k ks e))
-    by (journal_value v is) = subst (λ (x : Text). ending run_top (state rows q false (place f) false) (x ∷ words) ≢ []) (sym is)
-        (fails run_top _ _ words _ [] (journal-value-fault rows q (place f) false v))
-    by (steps is) = subst (λ (x : Text). ending run_top (state rows q false (place f) false) (x ∷ words) ≢ []) (sym is)
-        (fails run_top _ _ words k ks (steps-fault rows q (place f) false k ks e))
-    by (steps_value v is) = subst (λ (x : Text). ending run_top (state rows q false (place f) false) (x ∷ words) ≢ []) (sym is)
-        (fails run_top _ _ words k ks (value-fault rows q (place f) false v k ks e))
-    by (long c cs is a b) = subst (λ (x : Text). ending run_top (state rows q false (place f) false) (x ∷ words) ≢ []) (sym is)
-        (fails run_top _ _ words _ [] (long-unknown rows q (place f) false c cs a b))
-    by (short d ds y is a b) = subst (λ (x : Text). ending run_top (state rows q false (place f) false) (x ∷ words) ≢ []) (sym is)
-        (fails run_top _ _ words _ [] (short-unknown rows q (place f) false d ds y a b))
+  -- ---- the end of the words
 
--- what `clap` makes of the words, if no value is due, and if one is
-abbrev Free : List Text → Type 0
-Free words = (rows : List Row) (q : Pending) (f v : Option Text) (j : Bool) → Live rows q (record { file = f; steps = v; journal = j })
-    → Outcome (state rows q false (place f) false) words (record { file = f; steps = v; journal = j }) (rest_of false words)
+  no-rest : (f : Values) (id : Text) → f id ≡ f id ++ in_rest (only []) id
+  no-rest f id = by (bytes_eq (codes "words") id)
+    where
+      by : (b : Bool) → f id ≡ f id ++ cond b [] []
+      by true = sym (append-nil (f id))
+      by false = sym (append-nil (f id))
 
-abbrev steps_due : Pending
-steps_due = Some (codes "steps", [])
+  module _ (rows : List Row) (q : Pending) (waits : Waiting) (t : Bool) where
+    last-here : last top (state rows q waits t) [] ≡ all_rows rows q
+    last-here = k.rows (all_rows rows q)
 
-abbrev Due : List Text → Type 0
-Due words = (rows : List Row) (f v : Option Text) (j : Bool) → Shows rows (record { file = f; steps = v; journal = j })
-    → Outcome (state rows steps_due true (place f) false) words (record { file = f; steps = v; journal = j }) (rest_of true words)
+    end-fault : pending_fault rows q ≡ [] → ending top (state rows q waits t) [] ≡ []
+    unfolding walk_fault
+    end-fault clean = past _ _ clean ∙ past _ _ (k.defaults (all_rows rows q)) ∙ k.checks (finished rules (held rows q))
 
-other-ends : (s : Seen) (r : Rest) (all : Seen) → Total s (and_other r) all → ⊥
-other-ends s r all t = no-more r.others t.3
+    at-end : (f : Values) → Live rows q f → Outcome (state rows q waits t) [] f (only [])
+    at-end f live = record {
+      taken = λ e. (refl, (λ id. ap (values_in id) last-here ∙ live.shows id ∙ no-rest f id), refl);
+      takes = λ e. end-fault live.clean;
+    }
 
-module _ (words : List Text) (texts : AllTexts words) (free : Free words) (due : Due words) (rows : List Row) where
-  -- ---- no value is due
-  module _ (q : Pending) where
-    free-journal : (f v : Option Text) (j : Bool) → Live rows q (record { file = f; steps = v; journal = j })
-        → Outcome (state rows q false (place f) false) (codes "--journal" ∷ words) (record { file = f; steps = v; journal = j }) (and_journal (rest_of false words))
-    free-journal f v false live = moves _ _ _ words _ (record { file = f; steps = v; journal = true }) _ (rest_of false words)
-        (journal-turn rows q (place f) live.clean (no-row (codes "journal") (all_rows rows q) live.shows.journal)) (journal-walked rows q (place f)) (λ all t. t) (λ all t. t)
-        (free (used journal_built [] (all_rows rows q)) None f v true (live-journal (all_rows rows q) f v false live.shows))
-    free-journal f v true live = refuses _ _ _ _
-        (fails run_top _ _ words _ [] (journal-twice rows q (place f) live.clean (some-row (codes "journal") (all_rows rows q) _ live.shows.journal))) (λ all t. t.2)
+    pending-ends : (e : ErrorKind) (es : Kinds) → pending_fault rows q ≡ e ∷ es → ending top (state rows q waits t) [] ≢ []
+    unfolding walk_fault
+    pending-ends e es is h =
+        no-cons e _ (sym (ap (λ (l : Kinds). or_else l (or_else (defaults_fault (all_rows rows q) rules) (check_fault top (finished rules (held rows q)) false))) is) ∙ h)
 
-    free-value : (w : Text) (f v : Option Text) (j : Bool) → Live rows q (record { file = f; steps = v; journal = j })
-        → Outcome (state rows q false (place f) false) ((codes "--steps=" ++ w) ∷ words) (record { file = f; steps = v; journal = j }) (and_steps w (rest_of false words))
-    free-value w f None j live = moves _ _ _ words _ (record { file = f; steps = Some w; journal = j }) _ (rest_of false words)
-        (value-turn rows q (place f) w live.clean (no-row (codes "steps") (all_rows rows q) live.shows.steps)) (value-walked rows q (place f) w) (λ all t. t) (λ all t. t)
-        (free (used steps_built (w ∷ []) (all_rows rows q)) None f (Some w) j (live-value (all_rows rows q) f None j w live.shows))
-    free-value w f (Some old) j live = refuses _ _ _ _
-        (fails run_top _ _ words _ [] (value-twice rows q (place f) w live.clean (some-row (codes "steps") (all_rows rows q) _ live.shows.steps))) (λ all t. t.1)
+  -- ---- after `--`
 
-    free-plain : (w : Text) → is_option w ≡ false → (f v : Option Text) (j : Bool) → Live rows q (record { file = f; steps = v; journal = j })
-        → Outcome (state rows q false (place f) false) (w ∷ words) (record { file = f; steps = v; journal = j }) (and_word w (rest_of false words))
-    free-plain w o None v j live = moves _ _ _ words _ (record { file = Some w; steps = v; journal = j }) _ (rest_of false words)
-        (plain-first rows q w o ∙ live.clean) (plain-walked rows q w o) (λ all t. t) (λ all t. t)
-        (free (all_rows rows q) (Some (codes "file", w ∷ [])) (Some w) v j (live-file (all_rows rows q) None v j w live.shows))
-    free-plain w o (Some old) v j live = refuses _ _ _ _ (fails run_top _ _ words _ [] (plain-second rows q w o)) (λ all t. t.0)
+  later : (rows : List Row) (q : Pending) (waits : Waiting) (f : Values) (words : List Text) → Live rows q f → Outcome (state rows q waits true) words f (only words)
+  later rows q waits f [] live = at-end rows q waits true f live
+  later rows q waits f (x ∷ words) live = moves _ _ x words f (add (codes "words") x f) _ (only words)
+      (later-turn table rules k rows q waits x ∙ live.clean) (later-walk table rules k rows q waits x) refl (and-word x f (only words)) (λ e. e)
+      (later (all_rows rows q) (Some (codes "words", x ∷ [])) positional (add (codes "words") x f) words (live-word rows q f x live))
 
-    module _ (f v : Option Text) (j : Bool) (live : Live rows q (record { file = f; steps = v; journal = j })) where
+  doomed-later : (rows : List Row) (q : Pending) (waits : Waiting) (e : ErrorKind) (es : Kinds) (words : List Text) → pending_fault rows q ≡ e ∷ es
+      → ending top (state rows q waits true) words ≢ []
+  doomed-later rows q waits e es [] is = pending-ends rows q waits true e es is
+  doomed-later rows q waits e es (x ∷ words) is = fails top _ x words e es (later-turn table rules k rows q waits x ∙ is)
+
+  -- ---- before it
+
+  -- what `clap` makes of the words, if no value is due, and if one is
+  abbrev Free : List Text → Type 0
+  Free words = (rows : List Row) (q : Pending) (b : Bool) (f : Values) → Live rows q f → Outcome (state rows q (free b) false) words f (rest_of table None words)
+
+  abbrev Due : List Text → Type 0
+  Due words = (rows : List Row) (name : Text) (f : Values) → takes_value table name ≡ Some true → ((id : Text) → values_in id rows ≡ f id)
+      → Outcome (state rows (Some (name, [])) (option name) false) words f (rest_of table (Some name) words)
+
+  module _ (words : List Text) (free_more : Free words) (due_more : Due words) where
+    abbrev more : Option Text → Rest
+    more due = rest_of table due words
+
+    other-ends : (r : Rest) → (and_other r).others ≡ 0 → ⊥
+    other-ends r e = no-more r.others e
+
+    module _ (rows : List Row) (q : Pending) (b : Bool) (f : Values) (live : Live rows q f) where
+      passes : or_else (or_else (pending_fault rows q) []) [] ≡ []
+      passes = ap (λ (l : Kinds). or_else (or_else l []) []) live.clean
+
+      module _ (c : ℕ) (cs : Text) where
+        abbrev name : Text
+        name = (name_and_value (c ∷ cs)).0
+
+        free-long : (t : Option Bool) (v : Option Text) → takes_value table name ≡ t → (name_and_value (c ∷ cs)).1 ≡ v
+            → Outcome (state rows q (free b) false) ((45 ∷ 45 ∷ c ∷ cs) ∷ words) f (with_option name t v more)
+        free-long None None is has = refuses _ _ _ _ (fails top _ _ words _ [] (unknown-turn table rules k rows q c cs (free b) is)) (other-ends (more None))
+        free-long None (Some v) is has = refuses _ _ _ _ (fails top _ _ words _ [] (unknown-turn table rules k rows q c cs (free b) is)) (other-ends (more None))
+        free-long (Some false) (Some v) is has = refuses _ _ _ _ (fails top _ _ words _ [] (flag-value-turn table rules k rows q c cs (free b) is v has)) (other-ends (more None))
+        free-long (Some false) None is has = moves _ _ _ words f (add name [] f) _ (more None)
+            (flag-turn table rules k rows q c cs (free b) is has ∙ passes) (flag-walk table rules k rows q c cs (free b) is has) refl
+            (λ id. and-option name [] f (more None) id (k.apart name false is)) (no-words name [] (more None) (k.apart name false is))
+            (free_more (with_value name [] (all_rows rows q)) None false (add name [] f) (live-value name [] rows q f live))
+        free-long (Some true) (Some v) is has = moves _ _ _ words f (add name v f) _ (more None)
+            (value-turn table rules k rows q c cs (free b) is v has ∙ passes) (value-walk table rules k rows q c cs (free b) is v has) refl
+            (λ id. and-option name v f (more None) id (k.apart name true is)) (no-words name v (more None) (k.apart name true is))
+            (free_more (with_value name v (all_rows rows q)) None false (add name v f) (live-value name v rows q f live))
+        free-long (Some true) None is has = moves _ _ _ words f f _ (more (Some name))
+            (due-turn table rules k rows q c cs (free b) is has ∙ ap (λ (l : Kinds). or_else l []) live.clean) (due-walk table rules k rows q c cs (free b) is has) refl
+            (λ id. refl) (λ e. e) (due_more (all_rows rows q) name f is live.shows)
+
       abbrev Freely : Text → Type 0
-      Freely x = Outcome (state rows q false (place f) false) (x ∷ words) (record { file = f; steps = v; journal = j }) (rest_of false (x ∷ words))
+      Freely x = Outcome (state rows q (free b) false) (x ∷ words) f (rest_of table None (x ∷ words))
 
       free-by : (x : Text) → Spelling x → Freely x
-      free-by x (plain o) = subst (λ (r : Rest). Outcome (state rows q false (place f) false) (x ∷ words) (record { file = f; steps = v; journal = j }) r)
-          (sym (rest-plain words x o)) (free-plain x o f v j live)
-      free-by x (ends is) = subst Freely (sym is) (moves _ _ _ words _ _ _ (only words) (ends-turn rows q (place f) false).0 (ends-turn rows q (place f) false).1
-          (λ all t. t) (λ all t. t) (later rows q f v j words live))
-      free-by x (journal is) = subst Freely (sym is) (free-journal f v j live)
-      free-by x (journal_value w is) = subst Freely (sym is) (refuses _ _ _ _ (fails run_top _ _ words _ [] (journal-value-fault rows q (place f) false w)) (other-ends _ (rest_of false words)))
-      free-by x (steps is) = subst Freely (sym is) (moves _ _ _ words _ _ _ (rest_of true words) (steps-turn rows q (place f) live.clean) (steps-walked rows q (place f))
-          (λ all t. t) (λ all t. t) (due (all_rows rows q) f v j live.shows))
-      free-by x (steps_value w is) = subst Freely (sym is) (free-value w f v j live)
-      free-by x (long c cs is a b) = subst Freely (sym is) (subst (λ (r : Rest). Outcome (state rows q false (place f) false) ((45 ∷ 45 ∷ c ∷ cs) ∷ words) (record { file = f; steps = v; journal = j }) r)
-          (sym (rest-long words c cs a b)) (refuses _ _ _ _ (fails run_top _ _ words _ [] (long-unknown rows q (place f) false c cs a b)) (other-ends _ (rest_of false words))))
-      free-by x (short d ds y is a b) = subst Freely (sym is) (subst (λ (r : Rest). Outcome (state rows q false (place f) false) ((45 ∷ d ∷ ds) ∷ words) (record { file = f; steps = v; journal = j }) r)
-          (sym (rest-short words d ds a)) (refuses _ _ _ _ (fails run_top _ _ words _ [] (short-unknown rows q (place f) false d ds y a b)) (other-ends _ (rest_of false words))))
+      free-by x (plain o) = subst (λ (r : Rest). Outcome (state rows q (free b) false) (x ∷ words) f r) (sym (rest-plain table words x o))
+          (moves _ _ x words f (add (codes "words") x f) _ (more None) (plain-turn table rules k rows q b x o ∙ live.clean) (plain-walk table rules k rows q b x o)
+          refl (and-word x f (more None)) (λ e. e)
+          (free_more (all_rows rows q) (Some (codes "words", x ∷ [])) true (add (codes "words") x f) (live-word rows q f x live)))
+      free-by x (ends is) = subst Freely (sym is) (moves _ _ _ words f f _ (only words) (ends-turn table rules k rows q (free b)).0 (ends-turn table rules k rows q (free b)).1
+          refl (λ id. refl) (λ e. e) (later rows q (free b) f words live))
+      free-by x (long c cs is) = subst Freely (sym is) (free-long c cs _ _ refl refl)
+      free-by x (short d ds y is a h) = subst Freely (sym is) (subst (λ (r : Rest). Outcome (state rows q (free b) false) ((45 ∷ d ∷ ds) ∷ words) f r)
+          (sym (rest-short table words d ds a)) (refuses _ _ _ _ (fails top _ _ words _ [] (short-turn table rules k rows q (free b) d ds y a h)) (other-ends (more None))))
 
-  -- ---- a value is due
-  due-plain : (w : Text) → is_option w ≡ false → (f v : Option Text) (j : Bool) → Shows rows (record { file = f; steps = v; journal = j })
-      → Outcome (state rows steps_due true (place f) false) (w ∷ words) (record { file = f; steps = v; journal = j }) (and_steps w (rest_of false words))
-  due-plain w o f None j shows = moves _ _ _ words _ (record { file = f; steps = Some w; journal = j }) _ (rest_of false words)
-      (due-turn rows (place f) w o) (due-walked rows (place f) w o) (λ all t. t) (λ all t. t)
-      (free rows (Some (codes "steps", w ∷ [])) f (Some w) j (live-steps rows f None j w shows))
-  due-plain w o f (Some old) j shows = refuses _ _ _ _
-      (λ h. doomed rows (Some (codes "steps", w ∷ [])) f _ [] words texts (steps-again rows f (Some old) j w old shows)
-      (sym (goes run_top _ _ w words (due-turn rows (place f) w o) (due-walked rows (place f) w o)) ∙ h))
-      (λ all t. t.1)
+    module _ (rows : List Row) (due : Text) (f : Values) (takes : takes_value table due ≡ Some true) (shows : (id : Text) → values_in id rows ≡ f id) where
+      abbrev q : Pending
+      q = Some (due, [])
 
-  module _ (f v : Option Text) (j : Bool) (shows : Shows rows (record { file = f; steps = v; journal = j })) where
-    abbrev Duly : Text → Type 0
-    Duly x = Outcome (state rows steps_due true (place f) false) (x ∷ words) (record { file = f; steps = v; journal = j }) (rest_of true (x ∷ words))
+      bad : pending_fault rows q ≡ InvalidValue ∷ []
+      bad = no-value-pending table rules k due rows takes
 
-    due-other : (x : Text) → is_option x ≡ true → (ending run_top (state rows steps_due true (place f) false) (x ∷ words) ≢ []) → Duly x
-    due-other x o bad = subst (λ (r : Rest). Outcome (state rows steps_due true (place f) false) (x ∷ words) (record { file = f; steps = v; journal = j }) r)
-        (ap (λ (b : Bool). cond b (and_other (rest_of false words)) (and_steps x (rest_of false words))) (sym o))
-        (refuses _ _ _ _ bad (other-ends _ (rest_of false words)))
+      module _ (c : ℕ) (cs : Text) where
+        doomed-long : (t : Option Bool) (v : Option Text) → takes_value table (name_and_value (c ∷ cs)).0 ≡ t → (name_and_value (c ∷ cs)).1 ≡ v
+            → ending top (state rows q (option due) false) ((45 ∷ 45 ∷ c ∷ cs) ∷ words) ≢ []
+        doomed-long None v is has = fails top _ _ words _ [] (unknown-turn table rules k rows q c cs (option due) is)
+        doomed-long (Some false) (Some v) is has = fails top _ _ words _ [] (flag-value-turn table rules k rows q c cs (option due) is v has)
+        doomed-long (Some false) None is has = fails top _ _ words InvalidValue []
+            (flag-turn table rules k rows q c cs (option due) is has ∙ ap (λ (l : Kinds). or_else (or_else l []) []) bad)
+        doomed-long (Some true) (Some v) is has = fails top _ _ words InvalidValue []
+            (value-turn table rules k rows q c cs (option due) is v has ∙ ap (λ (l : Kinds). or_else (or_else l []) []) bad)
+        doomed-long (Some true) None is has = fails top _ _ words InvalidValue []
+            (due-turn table rules k rows q c cs (option due) is has ∙ ap (λ (l : Kinds). or_else l []) bad)
 
-    due-by : (x : Text) → Spelling x → Duly x
-    due-by x (plain o) = subst (λ (r : Rest). Outcome (state rows steps_due true (place f) false) (x ∷ words) (record { file = f; steps = v; journal = j }) r)
-        (ap (λ (b : Bool). cond b (and_other (rest_of false words)) (and_steps x (rest_of false words))) (sym o)) (due-plain x o f v j shows)
-    due-by x (ends is) = subst Duly (sym is) (due-other _ refl (λ h. doomed-later rows steps_due f true _ [] words refl
-        (sym (goes run_top _ _ (codes "--") words (ends-turn rows steps_due (place f) true).0 (ends-turn rows steps_due (place f) true).1) ∙ h)))
-    due-by x (journal is) = subst Duly (sym is) (due-other _ refl (fails run_top _ _ words _ [] (journal-fault rows steps_due (place f) true _ [] refl)))
-    due-by x (journal_value w is) = subst Duly (sym is) (due-other _ refl (fails run_top _ _ words _ [] (journal-value-fault rows steps_due (place f) true w)))
-    due-by x (steps is) = subst Duly (sym is) (due-other _ refl (fails run_top _ _ words _ [] (steps-fault rows steps_due (place f) true _ [] refl)))
-    due-by x (steps_value w is) = subst Duly (sym is) (due-other _ refl (fails run_top _ _ words _ [] (value-fault rows steps_due (place f) true w _ [] refl)))
-    due-by x (long c cs is a b) = subst Duly (sym is) (due-other _ refl (fails run_top _ _ words _ [] (long-unknown rows steps_due (place f) true c cs a b)))
-    due-by x (short d ds y is a b) = subst Duly (sym is) (due-other _ refl (fails run_top _ _ words _ [] (short-unknown rows steps_due (place f) true d ds y a b)))
+      abbrev Duly : Text → Type 0
+      Duly x = Outcome (state rows q (option due) false) (x ∷ words) f (rest_of table (Some due) (x ∷ words))
 
-both : (words : List Text) → AllTexts words → Free words × Due words
-both [] texts = (
-  λ rows q f v j live. at-end rows q f v j false (place f) false live,
-  λ rows f v j shows. refuses _ _ _ _ (pending-ends rows steps_due f None false true (place f) false InvalidValue [] refl) (other-ends _ (only [])),
-)
-both (x ∷ words) texts =
-    let more = both words texts.1 in (
-      λ rows q f v j live. free-by words texts.1 more.0 more.1 rows q f v j live x (spelling x texts.0),
-      λ rows f v j shows. due-by words texts.1 more.0 more.1 rows f v j shows x (spelling x texts.0),
-    )
+      due-other : (x : Text) → is_option x ≡ true → (ending top (state rows q (option due) false) (x ∷ words) ≢ []) → Duly x
+      due-other x o bad = subst (λ (r : Rest). Outcome (state rows q (option due) false) (x ∷ words) f r)
+          (ap (λ (b : Bool). cond b (and_other (more None)) (and_option due x (more None))) (sym o)) (refuses _ _ _ _ bad (other-ends (more None)))
 
-abbrev pub nothing_seen : Seen
-nothing_seen = record { file = None; steps = None; journal = false }
+      due-by : (x : Text) → Spelling x → Duly x
+      due-by x (plain o) = subst (λ (r : Rest). Outcome (state rows q (option due) false) (x ∷ words) f r)
+          (ap (λ (b : Bool). cond b (and_other (more None)) (and_option due x (more None))) (sym o))
+          (moves _ _ x words f (add due x f) _ (more None) (taken-turn table rules k rows due x takes o) (taken-walk table rules k rows due x takes o) refl
+          (λ id. and-option due x f (more None) id (k.apart due true takes)) (no-words due x (more None) (k.apart due true takes))
+          (free_more rows (Some (due, x ∷ [])) false (add due x f) (live-taken due x rows f takes shows)))
+      due-by x (ends is) = subst Duly (sym is) (due-other _ refl (λ h. doomed-later rows q (option due) _ [] words bad
+          (sym (goes top _ _ (codes "--") words (ends-turn table rules k rows q (option due)).0 (ends-turn table rules k rows q (option due)).1) ∙ h)))
+      due-by x (long c cs is) = subst Duly (sym is) (due-other _ refl (doomed-long c cs _ _ refl refl))
+      due-by x (short d ds y is a h) = subst Duly (sym is) (due-other _ refl (fails top _ _ words _ [] (short-turn table rules k rows q (option due) d ds y a h)))
 
--- what `clap` makes of the words after `run`
-pub run-outcome : (words : List Text) → AllTexts words → Outcome (state [] None false 1 false) words nothing_seen (rest_of false words)
-run-outcome words texts = (both words texts).0 [] None None None false (record {
-  clean = refl;
-  shows = record { file = refl; steps = refl; journal = refl };
-})
+  both : (words : List Text) → AllTexts words → Free words × Due words
+  both [] texts = (
+    λ rows q b f live. at-end rows q (free b) false f live,
+    λ rows name f takes shows. refuses _ _ _ _ (pending-ends rows (Some (name, [])) (option name) false InvalidValue [] (no-value-pending table rules k name rows takes)) (no-more 0),
+  )
+  both (x ∷ words) texts =
+      let more = both words texts.1 in (
+        λ rows q b f live. free-by words more.0 more.1 rows q b f live x (spelling x texts.0),
+        λ rows name f takes shows. due-by words more.0 more.1 rows name f takes shows x (spelling x texts.0),
+      )
 
-pub run-fault : (words : List Text) → fault_of run_app words ≡ ending run_top (state [] None false 1 false) words
-run-fault words = fault-is-ending words
-
-pub run-matches : (words : List Text) → matches_of run_app words ≡ last run_top (state [] None false 1 false) words
-run-matches words = refl
+  -- what `clap` makes of the words after a command's name
+  pub outcome : (words : List Text) → AllTexts words → Outcome (state [] None idle false) words (λ id. []) (rest_of table None words)
+  outcome words texts = (both words texts).0 [] None false (λ id. []) (record {
+    clean = refl;
+    shows = λ id. refl;
+  })

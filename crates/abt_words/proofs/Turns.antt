@@ -1,27 +1,21 @@
--- What `clap` makes of one word after `run`.
-use Rattle.std.proofs.Common.{◌≡◌, ◌==◌, ◌&&◌, ◌||◌, ℕ, Bool, cond, true, false, refl, ap, ◌∙◌, List, [], ◌∷◌, ◌++◌, codes, Option, Some, None}
-use Rattle.std.specs.Str.{bytes_eq, chars}
-use Rattle.std.specs.Prelude.{slice_get}
-use Rattle.clap.specs.Words.{Rule, Shape, built}
-use Rattle.clap.specs.Simple.{filled, with_index}
-use Rattle.clap.specs.Faults.{settle_fault, turn_fault, word_fault, step_fault, flags_fault, walk_fault, defaults_fault}
-use Rattle.clap.specs.Kinds.{Kinds}
-use Rattle.clap.specs.Walk.{Held, Row, Step, Waiting, Walk, after_step, has_row, idle, is_pending, next, option, pushed, settled, settled_rows, used, value, walked, word_met, bundle_met}
+-- What `clap` makes of one word.
+use Rattle.std.proofs.Common.{◌≡◌, ◌==◌, ◌&&◌, ◌||◌, ◌∙◌, ℕ, Bool, cond, true, false, refl, ap, ap₂, List, [], ◌∷◌, codes, Option, Some, None}
+use Rattle.std.specs.Prelude.{nat_lt, option_map, slice_get}
+use Rattle.std.specs.Option.{option_map_or}
+use Rattle.std.specs.Str.{chars}
+use Rattle.clap.specs.Faults.{defaults_fault, flags_fault, long_fault, positional_fault, settle_fault, step_fault, stray_fault, turn_fault, use_fault, walk_fault, word_fault}
+use Rattle.clap.specs.Kinds.{Kinds, or_else}
 use Rattle.clap.specs.Lexer.{name_and_value}
-use Rattle.clap.specs.declared.error.kind.ErrorKind.{ErrorKind}
-use Rattle.clap.specs.declared.error.kind.ErrorKind.TheVariants.{ArgumentConflict, TooManyValues, UnknownArgument}
+use Rattle.clap.specs.Simple.{Shape}
+use Rattle.clap.specs.Walk.{Held, Row, Rule, Step, Waiting, Walk, after_flag, after_step, arg_by_long, bundle_met, idle, is_pending, long_met, next, option, option_word, plain_word, positional, pushed, settled, settled_rows, to_positional, used_by_id, value, walked, with_values, word_met}
+use Rattle.clap.specs.declared.builder.value_parser.Reading.TheVariants.{AsWritten}
+use Rattle.clap.specs.declared.error.kind.ErrorKind.TheVariants.{InvalidValue, TooManyValues, UnknownArgument}
+use Rattle.clap.specs.declared.parser.matches.ValueSource.TheVariants.{CommandLine}
 use Rattle.clap.proofs.FaultLemmas.{past}
-use Rattle.clap.proofs.OnLiterals.{clap_on_literals}
 use Rattle.abt_machine.specs.Words.{Text}
-use Rattle.abt_words.specs.Commands.{is_option}
-use Rattle.abt_words.specs.Apps.{run_app, needed, steps_rule, journal_rule}
-use Rattle.abt_words.proofs.Plain.{plain-fault, plain-met}
-
-abbrev pub run_top : Shape
-run_top = (built run_app).top
-
-abbrev pub run_rules : List Rule
-run_rules = run_top.rules
+use Rattle.abt_words.specs.Rests.{Options, is_option, takes_value}
+use Rattle.abt_words.proofs.Names.{name-itself}
+use Rattle.abt_words.proofs.Rules.{Knows, option_built, shape_with, words_built}
 
 -- the argument whose values are being read
 abbrev pub Pending : Type 0
@@ -30,198 +24,253 @@ Pending = Option (Text × List Text)
 abbrev pub held : List Row → Pending → Held
 held rows q = record { rows = rows; pending = q; skip = 0 }
 
--- whether a value of `--steps` is due, as a walk has it
-abbrev pub waits : Bool → Waiting
-waits true = option (codes "steps")
-waits false = idle
+abbrev pub state : List Row → Pending → Waiting → Bool → Walk
+state rows q waits t = record { held = held rows q; waiting = waits; position = 1; is_trailing = t; stopped = None }
 
-abbrev pub state : List Row → Pending → Bool → ℕ → Bool → Walk
-state rows q due p t = record { held = held rows q; waiting = waits due; position = p; is_trailing = t; stopped = None }
+-- whether a positional waits
+abbrev pub free : Bool → Waiting
+free true = positional
+free false = idle
 
--- the faults of what is pending, and the rows with it
-abbrev pub pending_fault : List Row → Pending → Kinds
-pending_fault rows q = settle_fault run_rules false (held rows q)
-
-abbrev pub all_rows : List Row → Pending → List Row
-all_rows rows q = settled_rows run_rules q rows
-
-abbrev pub file_built : Rule
-file_built = with_index 1 (filled (needed (codes "file")))
-
-abbrev pub is_file : Pending → Bool
-is_file q = is_pending file_built q
-
--- the options, as building leaves them
-abbrev pub steps_built : Rule
-steps_built = filled steps_rule
-
-abbrev pub journal_built : Rule
-journal_built = filled journal_rule
+and-false : (b : Bool) (x y : Kinds) → cond (b && false) x y ≡ y
+and-false true x y = refl
+and-false false x y = refl
 
 or-false : (b : Bool) → (b || false) ≡ b
 or-false true = refl
 or-false false = refl
 
-and-false : (b : Bool) → (b && false) ≡ false
-and-false true = refl
-and-false false = refl
+-- with one more value of an argument
+abbrev pub with_value : Text → Text → List Row → List Row
+with_value name v rows = with_values name AsWritten CommandLine (v ∷ []) rows
 
-module _ (rows : List Row) (q : Pending) (p : ℕ) where
-  pub ends-turn : (due : Bool) → (turn_fault run_top [] (state rows q due p false) (codes "--") ≡ [])
-      × (walked run_rules [] (state rows q due p false) (codes "--") ≡ state rows q due p true)
-  unfolding clap_on_literals
-  ends-turn true = (refl, refl)
-  ends-turn false = (refl, refl)
+module _ (table : Options) (rules : List Rule) (k : Knows table rules) where
+  abbrev top : Shape
+  top = shape_with rules
 
-  pub journal-fault : (due : Bool) (k : ErrorKind) (ks : Kinds) → pending_fault rows q ≡ k ∷ ks → turn_fault run_top [] (state rows q due p false) (codes "--journal") ≡ k ∷ ks
-  unfolding clap_on_literals
-  journal-fault true k ks e = rw e refl
-  journal-fault false k ks e = rw e refl
+  -- the faults of what is pending, and the rows with it
+  abbrev pending_fault : List Row → Pending → Kinds
+  pending_fault rows q = settle_fault rules false (held rows q)
 
-  pub journal-twice : pending_fault rows q ≡ [] → has_row (codes "journal") (all_rows rows q) ≡ true
-      → turn_fault run_top [] (state rows q false p false) (codes "--journal") ≡ ArgumentConflict ∷ []
-  unfolding clap_on_literals
-  journal-twice e f = simp (e, f) refl
+  abbrev all_rows : List Row → Pending → List Row
+  all_rows rows q = settled_rows rules q rows
 
-  pub journal-turn : pending_fault rows q ≡ [] → has_row (codes "journal") (all_rows rows q) ≡ false
-      → turn_fault run_top [] (state rows q false p false) (codes "--journal") ≡ []
-  unfolding clap_on_literals
-  journal-turn e f = simp (e, f) refl
+  -- ---- what is pending
 
-  pub journal-walked : walked run_rules [] (state rows q false p false) (codes "--journal") ≡ state (used journal_built [] (all_rows rows q)) None false p false
-  unfolding clap_on_literals
-  journal-walked = refl
+  pub no-value-pending : (name : Text) (rows : List Row) → takes_value table name ≡ Some true → pending_fault rows (Some (name, [])) ≡ InvalidValue ∷ []
+  no-value-pending name rows is = ap (λ (o : Option Rule). option_map_or (λ a. use_fault false a [] rows) o []) (k.id name true is)
 
-  pub steps-fault : (due : Bool) (k : ErrorKind) (ks : Kinds) → pending_fault rows q ≡ k ∷ ks → turn_fault run_top [] (state rows q due p false) (codes "--steps") ≡ k ∷ ks
-  unfolding clap_on_literals
-  steps-fault true k ks e = rw e refl
-  steps-fault false k ks e = rw e refl
+  pub value-pending : (name v : Text) (rows : List Row) → takes_value table name ≡ Some true
+      → (pending_fault rows (Some (name, v ∷ [])) ≡ []) × (all_rows rows (Some (name, v ∷ [])) ≡ with_value name v rows)
+  value-pending name v rows is = (
+    ap (λ (o : Option Rule). option_map_or (λ a. use_fault false a (v ∷ []) rows) o []) (k.id name true is),
+    ap (λ (o : Option Rule). used_by_id o (v ∷ []) rows) (k.id name true is),
+  )
 
-  pub steps-turn : pending_fault rows q ≡ [] → turn_fault run_top [] (state rows q false p false) (codes "--steps") ≡ []
-  unfolding clap_on_literals
-  steps-turn e = rw e refl
+  pub word-pending : (v : Text) (rows : List Row)
+      → (pending_fault rows (Some (codes "words", v ∷ [])) ≡ []) × (all_rows rows (Some (codes "words", v ∷ [])) ≡ with_value (codes "words") v rows)
+  word-pending v rows = (
+    ap (λ (o : Option Rule). option_map_or (λ a. use_fault false a (v ∷ []) rows) o []) k.words,
+    ap (λ (o : Option Rule). used_by_id o (v ∷ []) rows) k.words,
+  )
 
-  pub steps-walked : walked run_rules [] (state rows q false p false) (codes "--steps") ≡ state (all_rows rows q) (Some (codes "steps", [])) true p false
-  unfolding clap_on_literals
-  steps-walked = refl
+  -- ---- `--`
 
-  pub value-fault : (due : Bool) (v : Text) (k : ErrorKind) (ks : Kinds) → pending_fault rows q ≡ k ∷ ks
-      → turn_fault run_top [] (state rows q due p false) (codes "--steps=" ++ v) ≡ k ∷ ks
-  unfolding clap_on_literals
-  value-fault true v k ks e = rw e refl
-  value-fault false v k ks e = rw e refl
+  module _ (rows : List Row) (q : Pending) where
+    pub ends-turn : (waits : Waiting) → (turn_fault top [] (state rows q waits false) (codes "--") ≡ [])
+        × (walked rules [] (state rows q waits false) (codes "--") ≡ state rows q waits true)
+    unfolding walked
+    ends-turn idle = (refl, refl)
+    ends-turn (option id) = (refl, refl)
+    ends-turn positional = (refl, refl)
 
-  pub value-twice : (v : Text) → pending_fault rows q ≡ [] → has_row (codes "steps") (all_rows rows q) ≡ true
-      → turn_fault run_top [] (state rows q false p false) (codes "--steps=" ++ v) ≡ ArgumentConflict ∷ []
-  unfolding clap_on_literals
-  value-twice v e f = simp (e, f) refl
+  -- ---- `--name` and `--name=value`
 
-  pub value-turn : (v : Text) → pending_fault rows q ≡ [] → has_row (codes "steps") (all_rows rows q) ≡ false
-      → turn_fault run_top [] (state rows q false p false) (codes "--steps=" ++ v) ≡ []
-  unfolding clap_on_literals
-  value-turn v e f = simp (e, f) refl
+  -- what a word makes of the walk, by the rule that its name finds and the value in it
+  abbrev long_faults : List Row → Pending → Waiting → Text → Option Rule → Option Text → Kinds
+  long_faults rows q waits word o v =
+      let met = long_met rules o v (held rows q) in
+      let step = after_flag rules waits word met.0 met.1 in
+      or_else (long_fault rules false o v (held rows q)) (step_fault top 1 step.0 step.1)
 
-  pub value-walked : (v : Text) → walked run_rules [] (state rows q false p false) (codes "--steps=" ++ v)
-      ≡ state (used steps_built (v ∷ []) (all_rows rows q)) None false p false
-  unfolding clap_on_literals
-  value-walked v = refl
+  abbrev long_walked : List Row → Pending → Waiting → Text → Option Rule → Option Text → Walk
+  long_walked rows q waits word o v =
+      let met = long_met rules o v (held rows q) in
+      let step = after_flag rules waits word met.0 met.1 in
+      after_step rules word (state rows q waits false) step.0 step.1
 
-  pub journal-value-fault : (due : Bool) (v : Text) → turn_fault run_top [] (state rows q due p false) (codes "--journal=" ++ v) ≡ TooManyValues ∷ []
-  unfolding clap_on_literals
-  journal-value-fault true v = refl
-  journal-value-fault false v = refl
+  module _ (rows : List Row) (q : Pending) (c : ℕ) (cs : Text) where
+    abbrev word : Text
+    word = 45 ∷ 45 ∷ c ∷ cs
 
-  pub long-unknown : (due : Bool) (c : ℕ) (cs : Text) → bytes_eq (codes "steps") (name_and_value (c ∷ cs)).0 ≡ false
-      → bytes_eq (codes "journal") (name_and_value (c ∷ cs)).0 ≡ false
-      → turn_fault run_top [] (state rows q due p false) (45 ∷ 45 ∷ c ∷ cs) ≡ UnknownArgument ∷ []
-  unfolding clap_on_literals
-  long-unknown true c cs e f = simp (e, f) refl
-  long-unknown false c cs e f = simp (e, f) refl
+    abbrev name : Text
+    name = (name_and_value (c ∷ cs)).0
 
-  pub short-unknown : (due : Bool) (d : ℕ) (ds : Text) (x : ℕ) → (d == 45) ≡ false → slice_get (chars (d ∷ ds)) 0 ≡ Some x
-      → turn_fault run_top [] (state rows q due p false) (45 ∷ d ∷ ds) ≡ UnknownArgument ∷ []
+    abbrev attached : Option Text
+    attached = (name_and_value (c ∷ cs)).1
+
+    faults-are : (waits : Waiting) → turn_fault top [] (state rows q waits false) word ≡ long_faults rows q waits word (arg_by_long rules name) attached
+    faults-are idle = refl
+    faults-are (option id) = refl
+    faults-are positional = refl
+
+    walk-is : (waits : Waiting) → walked rules [] (state rows q waits false) word ≡ long_walked rows q waits word (arg_by_long rules name) attached
+    unfolding walked
+    walk-is idle = refl
+    walk-is (option id) = refl
+    walk-is positional = refl
+
+    module _ (waits : Waiting) where
+      pub unknown-turn : takes_value table name ≡ None → turn_fault top [] (state rows q waits false) word ≡ UnknownArgument ∷ []
+      unknown-turn is = faults-are waits ∙ ap (λ (o : Option Rule). long_faults rows q waits word o attached) (k.long name ∙ ap (option_map (option_built name)) is)
+
+      module _ (takes : Bool) (v : Option Text) (is : takes_value table name ≡ Some takes) (has : attached ≡ v) where
+        rule-is : arg_by_long rules name ≡ Some (option_built name takes)
+        rule-is = k.long name ∙ ap (option_map (option_built name)) is
+
+        known-faults : turn_fault top [] (state rows q waits false) word ≡ long_faults rows q waits word (Some (option_built name takes)) v
+        known-faults = faults-are waits ∙ ap₂ (λ (o : Option Rule) (v : Option Text). long_faults rows q waits word o v) rule-is has
+
+        known-walk : walked rules [] (state rows q waits false) word ≡ long_walked rows q waits word (Some (option_built name takes)) v
+        known-walk = walk-is waits ∙ ap₂ (λ (o : Option Rule) (v : Option Text). long_walked rows q waits word o v) rule-is has
+
+      module _ (is : takes_value table name ≡ Some true) where
+        pub value-turn : (v : Text) → attached ≡ Some v → turn_fault top [] (state rows q waits false) word ≡ or_else (or_else (pending_fault rows q) []) []
+        value-turn v has = known-faults true (Some v) is has
+
+        pub value-walk : (v : Text) → attached ≡ Some v → walked rules [] (state rows q waits false) word ≡ state (with_value name v (all_rows rows q)) None idle false
+        value-walk v has = known-walk true (Some v) is has
+
+        pub due-turn : attached ≡ None → turn_fault top [] (state rows q waits false) word ≡ or_else (pending_fault rows q) []
+        due-turn has = known-faults true None is has
+
+        pub due-walk : attached ≡ None → walked rules [] (state rows q waits false) word ≡ state (all_rows rows q) (Some (name, [])) (option name) false
+        due-walk has = known-walk true None is has
+
+      module _ (is : takes_value table name ≡ Some false) where
+        pub flag-value-turn : (v : Text) → attached ≡ Some v → turn_fault top [] (state rows q waits false) word ≡ TooManyValues ∷ []
+        flag-value-turn v has = known-faults false (Some v) is has
+
+        pub flag-turn : attached ≡ None → turn_fault top [] (state rows q waits false) word ≡ or_else (or_else (pending_fault rows q) []) []
+        flag-turn has = known-faults false None is has
+
+        pub flag-walk : attached ≡ None → walked rules [] (state rows q waits false) word ≡ state (with_value name [] (all_rows rows q)) None idle false
+        flag-walk has = known-walk false None is has
+
+  -- ---- `-x`
+
+  pub short-turn : (rows : List Row) (q : Pending) (waits : Waiting) (d : ℕ) (ds : Text) (x : ℕ) → (d == 45) ≡ false → slice_get (chars (d ∷ ds)) 0 ≡ Some x
+      → turn_fault top [] (state rows q waits false) (45 ∷ d ∷ ds) ≡ UnknownArgument ∷ []
   unfolding walked bundle_met flags_fault walk_fault defaults_fault
-  short-unknown true d ds x e f = simp (e, f) refl
-  short-unknown false d ds x e f = simp (e, f) refl
+  short-turn rows q idle d ds x e f = let s = k.short x in simp (e, f, s) refl
+  short-turn rows q (option id) d ds x e f = let s = k.short x in simp (e, f, s) refl
+  short-turn rows q positional d ds x e f = let s = k.short x in simp (e, f, s) refl
 
--- a word that is no option, and the words after `--`
-module _ (rows : List Row) (q : Pending) where
-  -- the word is a value if it is no option, and also if `--` stood before it
-  first-file : (t : Bool) (w : Text) → word_fault run_top [] t idle w (held rows q) ≡ [] → word_met run_rules [] t idle 1 w (held rows q) ≡ (held rows q, value)
-      → turn_fault run_top [] (state rows q false 1 t) w ≡ pending_fault rows q
-  first-file t w e f = past _ _ e ∙ ap (λ (m : Held × Step). step_fault run_top 1 m.0 m.1) f ∙ by (is_file q)
+  -- ---- a word that is no option
+
+  plain-fault : (h : Held) (waits : Waiting) (w : Text) → is_option w ≡ false → word_fault top [] false waits w h ≡ []
+  plain-fault h idle [] e = refl
+  plain-fault h (option id) [] e = refl
+  plain-fault h positional [] e = refl
+  plain-fault h idle (c ∷ []) e = by (c == 45) refl
     where
-      by : (b : Bool) → cond (b && false) [] (pending_fault rows q) ≡ pending_fault rows q
-      by true = refl
-      by false = refl
-
-  second-file : (t : Bool) (w : Text) → word_fault run_top [] t idle w (held rows q) ≡ [] → word_met run_rules [] t idle 2 w (held rows q) ≡ (held rows q, value)
-      → turn_fault run_top [] (state rows q false 2 t) w ≡ UnknownArgument ∷ []
-  second-file t w e f = past _ _ e ∙ ap (λ (m : Held × Step). step_fault run_top 2 m.0 m.1) f
-
-  first-walked : (t : Bool) (w : Text) → word_met run_rules [] t idle 1 w (held rows q) ≡ (held rows q, value)
-      → walked run_rules [] (state rows q false 1 t) w ≡ state (all_rows rows q) (Some (codes "file", w ∷ [])) false 2 t
-  unfolding walked
-  first-walked t w f = ap (λ (m : Held × Step). after_step run_rules w (state rows q false 1 t) m.0 m.1) f ∙ by (is_file q)
+      by : (b : Bool) → (c == 45) ≡ b → word_fault top [] false idle (c ∷ []) h ≡ []
+      by true f = simp f refl
+      by false f = simp f refl
+  plain-fault h (option id) (c ∷ []) e = by (c == 45) refl
     where
-      by : (b : Bool) → ◌≡◌ {A = Walk} (record {
-        held = pushed (codes "file") w (cond (b && false) (held rows q) (settled run_rules (held rows q)));
-        waiting = idle;
-        position = 2;
-        is_trailing = t || false;
-        stopped = None;
-      }) (state (all_rows rows q) (Some (codes "file", w ∷ [])) false 2 t)
-      by true = ap (λ (b : Bool). record (state (all_rows rows q) (Some (codes "file", w ∷ [])) false 2 t) { is_trailing = b }) (or-false t)
-      by false = ap (λ (b : Bool). record (state (all_rows rows q) (Some (codes "file", w ∷ [])) false 2 t) { is_trailing = b }) (or-false t)
-
--- the words of the two kinds that are values: those that are no option, and those after `--`
-module _ (rows : List Row) (q : Pending) (w : Text) (e : is_option w ≡ false) where
-  pub plain-first : turn_fault run_top [] (state rows q false 1 false) w ≡ pending_fault rows q
-  plain-first = first-file rows q false w (plain-fault run_top (held rows q) None w e) (plain-met run_rules (held rows q) 1 w e)
-
-  pub plain-second : turn_fault run_top [] (state rows q false 2 false) w ≡ UnknownArgument ∷ []
-  plain-second = second-file rows q false w (plain-fault run_top (held rows q) None w e) (plain-met run_rules (held rows q) 2 w e)
-
-  pub plain-walked : walked run_rules [] (state rows q false 1 false) w ≡ state (all_rows rows q) (Some (codes "file", w ∷ [])) false 2 false
-  plain-walked = first-walked rows q false w (plain-met run_rules (held rows q) 1 w e)
-
--- the value of `--steps`
-due-met : (rows : List Row) (p : ℕ) (w : Text) → is_option w ≡ false
-    → word_met run_rules [] false (waits true) p w (held rows (Some (codes "steps", []))) ≡ (held rows (Some (codes "steps", w ∷ [])), next idle)
-unfolding clap_on_literals
-due-met rows p [] e = refl
-due-met rows p (c ∷ []) e = by (c == 45) refl
-  where
-    by : (b : Bool) → (c == 45) ≡ b → word_met run_rules [] false (waits true) p (c ∷ []) (held rows (Some (codes "steps", []))) ≡ (held rows (Some (codes "steps", (c ∷ []) ∷ [])), next idle)
-    by true f = simp f refl
-    by false f = simp f refl
-due-met rows p (c ∷ d ∷ ds) e = simp e refl
-
-module _ (rows : List Row) (p : ℕ) (w : Text) (e : is_option w ≡ false) where
-  pub due-turn : turn_fault run_top [] (state rows (Some (codes "steps", [])) true p false) w ≡ []
-  due-turn = past _ _ (plain-fault run_top (held rows (Some (codes "steps", []))) (Some (codes "steps")) w e) ∙ ap (λ (m : Held × Step). step_fault run_top p m.0 m.1) (due-met rows p w e)
-
-  pub due-walked : walked run_rules [] (state rows (Some (codes "steps", [])) true p false) w ≡ state rows (Some (codes "steps", w ∷ [])) false p false
-  unfolding walked
-  due-walked = ap (λ (m : Held × Step). after_step run_rules w (state rows (Some (codes "steps", [])) true p false) m.0 m.1) (due-met rows p w e)
-
--- after `--`
-module _ (rows : List Row) (q : Pending) (w : Text) where
-  pub later-first : (due : Bool) → turn_fault run_top [] (state rows q due 1 true) w ≡ pending_fault rows q
-  later-first true = by (is_file q)
+      by : (b : Bool) → (c == 45) ≡ b → word_fault top [] false (option id) (c ∷ []) h ≡ []
+      by true f = simp f refl
+      by false f = simp f refl
+  plain-fault h positional (c ∷ []) e = by (c == 45) refl
     where
-      by : (b : Bool) → cond (b && false) [] (pending_fault rows q) ≡ pending_fault rows q
-      by true = refl
-      by false = refl
-  later-first false = by (is_file q)
+      by : (b : Bool) → (c == 45) ≡ b → word_fault top [] false positional (c ∷ []) h ≡ []
+      by true f = simp f refl
+      by false f = simp f refl
+  plain-fault h idle (c ∷ d ∷ ds) e = simp e refl
+  plain-fault h (option id) (c ∷ d ∷ ds) e = simp e refl
+  plain-fault h positional (c ∷ d ∷ ds) e = simp e refl
+
+  plain-met : (h : Held) (waits : Waiting) (w : Text) → is_option w ≡ false → word_met rules [] false waits 1 w h ≡ plain_word rules waits w h
+  plain-met h idle [] e = refl
+  plain-met h (option id) [] e = refl
+  plain-met h positional [] e = refl
+  plain-met h idle (c ∷ []) e = by (c == 45) refl
     where
-      by : (b : Bool) → cond (b && false) [] (pending_fault rows q) ≡ pending_fault rows q
-      by true = refl
-      by false = refl
+      by : (b : Bool) → (c == 45) ≡ b → word_met rules [] false idle 1 (c ∷ []) h ≡ plain_word rules idle (c ∷ []) h
+      by true f = simp f refl
+      by false f = simp f refl
+  plain-met h (option id) (c ∷ []) e = by (c == 45) refl
+    where
+      by : (b : Bool) → (c == 45) ≡ b → word_met rules [] false (option id) 1 (c ∷ []) h ≡ plain_word rules (option id) (c ∷ []) h
+      by true f = simp f refl
+      by false f = simp f refl
+  plain-met h positional (c ∷ []) e = by (c == 45) refl
+    where
+      by : (b : Bool) → (c == 45) ≡ b → word_met rules [] false positional 1 (c ∷ []) h ≡ plain_word rules positional (c ∷ []) h
+      by true f = simp f refl
+      by false f = simp f refl
+  plain-met h idle (c ∷ d ∷ ds) e = simp e refl
+  plain-met h (option id) (c ∷ d ∷ ds) e = simp e refl
+  plain-met h positional (c ∷ d ∷ ds) e = simp e refl
 
-  pub later-second : (due : Bool) → turn_fault run_top [] (state rows q due 2 true) w ≡ UnknownArgument ∷ []
-  later-second true = refl
-  later-second false = refl
+  -- a word goes to the positional
+  module _ (rows : List Row) (q : Pending) where
+    goes-fault : step_fault top 1 (held rows q) value ≡ pending_fault rows q
+    goes-fault = ap (λ (o : Option Rule). option_map_or (λ a. positional_fault rules false a (held rows q)) o (stray_fault top)) k.first
+        ∙ and-false (is_pending words_built q) [] (pending_fault rows q)
 
-  pub later-walked : walked run_rules [] (state rows q false 1 true) w ≡ state (all_rows rows q) (Some (codes "file", w ∷ [])) false 2 true
-  later-walked = first-walked rows q true w refl
+    goes-held : (b : Bool) → cond (b && false) (held rows q) (settled rules (held rows q)) ≡ settled rules (held rows q)
+    goes-held true = refl
+    goes-held false = refl
+
+    goes-walk : (waits : Waiting) (t : Bool) (w : Text) → after_step rules w (state rows q waits t) (held rows q) value
+        ≡ state (all_rows rows q) (Some (codes "words", w ∷ [])) positional t
+    goes-walk waits t w = ap (λ (o : Option Rule). to_positional rules o w (state rows q waits t) (held rows q)) k.first
+        ∙ ap (λ (h : Held). record {
+          held = pushed (codes "words") w h;
+          waiting = positional;
+          position = 1;
+          is_trailing = t || false;
+          stopped = None;
+        }) (goes-held (is_pending words_built q))
+        ∙ ap (λ (b : Bool). state (all_rows rows q) (Some (codes "words", w ∷ [])) positional b) (or-false t)
+
+    -- no option waits for its value
+    pub plain-turn : (b : Bool) (w : Text) → is_option w ≡ false → turn_fault top [] (state rows q (free b) false) w ≡ pending_fault rows q
+    plain-turn true w e = past _ _ (plain-fault (held rows q) positional w e)
+        ∙ ap (λ (m : Held × Step). step_fault top 1 m.0 m.1) (plain-met (held rows q) positional w e) ∙ goes-fault
+    plain-turn false w e = past _ _ (plain-fault (held rows q) idle w e)
+        ∙ ap (λ (m : Held × Step). step_fault top 1 m.0 m.1) (plain-met (held rows q) idle w e) ∙ goes-fault
+
+    pub plain-walk : (b : Bool) (w : Text) → is_option w ≡ false
+        → walked rules [] (state rows q (free b) false) w ≡ state (all_rows rows q) (Some (codes "words", w ∷ [])) positional false
+    unfolding walked
+    plain-walk true w e = ap (λ (m : Held × Step). after_step rules w (state rows q positional false) m.0 m.1) (plain-met (held rows q) positional w e) ∙ goes-walk positional false w
+    plain-walk false w e = ap (λ (m : Held × Step). after_step rules w (state rows q idle false) m.0 m.1) (plain-met (held rows q) idle w e) ∙ goes-walk idle false w
+
+    -- after `--`
+    pub later-turn : (waits : Waiting) (w : Text) → turn_fault top [] (state rows q waits true) w ≡ pending_fault rows q
+    later-turn waits w = goes-fault
+
+    pub later-walk : (waits : Waiting) (w : Text) → walked rules [] (state rows q waits true) w ≡ state (all_rows rows q) (Some (codes "words", w ∷ [])) positional true
+    unfolding walked
+    later-walk waits w = goes-walk waits true w
+
+  -- ---- the value of an option
+
+  module _ (rows : List Row) (name w : Text) (is : takes_value table name ≡ Some true) (e : is_option w ≡ false) where
+    abbrev old : Held
+    old = held rows (Some (name, []))
+
+    taken-met : word_met rules [] false (option name) 1 w old ≡ (held rows (Some (name, w ∷ [])), next idle)
+    taken-met = plain-met old (option name) w e
+        ∙ ap (λ (o : Option Rule). ((option_word o name w old).0, next (option_word o name w old).1)) (k.id name true is)
+        ∙ ap (λ (b : Bool). (held rows (Some (name, w ∷ [])), next (cond (nat_lt (cond b 1 0) 1) (option name) idle))) (name-itself name)
+
+    pub taken-turn : turn_fault top [] (state rows (Some (name, [])) (option name) false) w ≡ []
+    taken-turn = past _ _ (plain-fault old (option name) w e) ∙ ap (λ (m : Held × Step). step_fault top 1 m.0 m.1) taken-met
+
+    pub taken-walk : walked rules [] (state rows (Some (name, [])) (option name) false) w ≡ state rows (Some (name, w ∷ [])) idle false
+    unfolding walked
+    taken-walk = ap (λ (m : Held × Step). after_step rules w (state rows (Some (name, [])) (option name) false) m.0 m.1) taken-met

@@ -1,4 +1,5 @@
 pub mod Apps
 pub mod Asked
 pub mod Commands
+pub mod Rests
 pub mod Steps

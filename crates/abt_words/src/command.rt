@@ -5,15 +5,18 @@ ghost use Rattle.abt_words.specs.declared.commands.Command.{Command};
 ghost use Rattle.abt_words.specs.Commands.{Says};
 
 use crate::WordFault;
+use crate::alone::{help, version};
+use crate::check::check;
 use crate::commands::Command;
 use crate::explore::explore;
-use crate::on_files::{check, flow};
+use crate::flow::flow;
 use crate::run::run;
 use crate::self_run::self_run;
 use std::alloc::Global;
 
-/// The command that the words after the program's name say: `run FILE [--steps V] [--journal]`, with the options in any
-/// order, `self N`, `check WORKLOAD JOURNAL`, `flow FILE` or `explore FILE [K]`.
+/// The command that the words after the program's name say: `run FILE [--steps V] [--journal] [--in-turn]`, `self N`,
+/// `check WORKLOAD JOURNAL`, `flow FILE`, `explore FILE [--states M] [--end K [--journal]]`, with the options in any order, `--help`
+/// or `--version`.
 pub fn words(alloc: Global, list: &[String]) -> Result<Command, WordFault>
     ensures said { IfOk result (λ c. Says (map string_bytes list.now) c) }
     ensures only { IfOk result (λ c. (d : Command) → Says (map string_bytes list.now) d → d ≡ c) }
@@ -28,6 +31,8 @@ pub fn words(alloc: Global, list: &[String]) -> Result<Command, WordFault>
         "check" => check(alloc, rest),
         "flow" => flow(alloc, rest),
         "explore" => explore(alloc, rest),
+        "--help" => help(rest),
+        "--version" => version(rest),
         _ => Err(WordFault::Bad),
     }
 }

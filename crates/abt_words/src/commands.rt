@@ -2,32 +2,58 @@
 
 use abt_machine::Text;
 
+/// How the streams of a run take turns.
+#[derive(Clone, Copy, Debug, PartialEq, Eq)]
+pub enum Schedule {
+    /// Each runs on a thread of its own, as the host lets them.
+    Threads,
+    /// On one thread, in rotation.
+    InTurn,
+}
+
+/// What the words after `run` ask for: a file with a workload, at most how many steps each stream makes, if a word says that, whether
+/// the journal is printed, whether it is said what units wait for, and how the streams take turns.
+#[derive(Drop)]
+pub struct RunWords {
+    pub file: Text,
+    pub steps: Option<u64>,
+    pub journal: bool,
+    pub why: bool,
+    pub schedule: Schedule,
+}
+
+/// What the words after `check` ask for: a file with a workload, and one with a journal.
+#[derive(Drop)]
+pub struct CheckWords {
+    pub workload: Text,
+    pub journal: Text,
+}
+
+/// What the words after `explore` ask for: a file with a workload, at most how many states are searched, if a word says that, and the
+/// number of an end, if only that one is printed, and whether a journal that leads to it is.
+#[derive(Drop)]
+pub struct ExploreWords {
+    pub file: Text,
+    pub states: Option<u64>,
+    pub end: Option<u64>,
+    pub journal: bool,
+}
+
 /// What the words after the program's name ask for.
 #[derive(Drop)]
 pub enum Command {
-    /// Runs the workload in a file, each stream making at most this many steps, if a word asks for a number of them; whether the
-    /// journal is printed.
-    Run {
-        file: Text,
-        steps: Option<u64>,
-        journal: bool,
-    },
+    /// Runs the workload in a file.
+    Run(RunWords),
     /// Runs the workload that is generated for this many units.
-    SelfRun {
-        units: u32,
-    },
+    SelfRun { units: u32 },
     /// Whether the journal in a file is a run of the workload in another.
-    Check {
-        workload: Text,
-        journal: Text,
-    },
+    Check(CheckWords),
     /// What each unit of the workload in a file prints, whatever the schedule.
-    Flow {
-        file: Text,
-    },
-    /// Each way in which the workload in a file can end, or the one of this number with a journal that leads to it.
-    Explore {
-        file: Text,
-        end: Option<u64>,
-    },
+    Flow { file: Text },
+    /// The ways in which the workload in a file can end.
+    Explore(ExploreWords),
+    /// What the words of the program are.
+    Help,
+    /// Which version of the program this is.
+    Version,
 }

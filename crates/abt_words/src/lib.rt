@@ -6,19 +6,21 @@
 #![tactic(auto)]
 
 mod alone;
-mod clap_commands;
+mod asked;
+mod check;
 mod command;
 mod commands;
 mod explore;
 mod fault;
+mod flow;
 mod numbers;
-mod on_files;
+mod options;
 mod run;
 mod self_run;
 mod steps;
 
 pub use command::words;
-pub use commands::Command;
+pub use commands::{CheckWords, Command, ExploreWords, RunWords, Schedule};
 pub use explore::MOST_STATES;
 pub use fault::WordFault;
 pub use numbers::number;

@@ -1,7 +1,0 @@
-use Rattle.abt_words.proofs.Passed.{passed-on}
-use Rattle.abt_words.proofs.FoundAlone.{flow-needs-one}
-use Rattle.abt_words.proofs.on_files.flow.Goals as goal
-
-pub returns-in_err-file-clause-bad : goal.returns-in_err-file-clause-bad
-returns-in_err-file-clause-bad c = λ bad.
-    flow-needs-one _ (c.in_err-file.ensures.bad (passed-on c.from_residual.result c.in_err-file.field-0.0 _ c.from_residual.ensures.1 bad))
