@@ -505,7 +505,7 @@ pub(crate) static FLOWS: [Row<'static>; 7] = [
     // by an eventual
     Row {
         lines: b"object 0 eventual\nunits 2\nunit 0 ult at 0\newait 0\nprint\nunit 1 ult at 0\nset 4\nadd 1\neset 0\nsay x\nend\n",
-        out: "unit 0: 5\nunit 1: x\n",
+        out: "unit 0: 5\nunit 1: x\nfinishes\n",
         ..FLOW
     },
     // its run
@@ -561,7 +561,7 @@ const EXPLORE: Row<'static> = Row {
 
 /// Ends. A stream that takes, looks at, steps and ends one unit has been in four states before its end, and is in one more once it has
 /// missed.
-pub(crate) static ENDS: [Row<'static>; 6] = [
+pub(crate) static ENDS: [Row<'static>; 7] = [
     // all ends
     Row {
         out: "states 6\nend 1 finished events 4\nunit 0 done: 0\ntally units 1 unborn 0 pool 0 stream 0 blocked 0 done 1 asked 0 access 0 steps 1\nfinished\n",
@@ -569,13 +569,19 @@ pub(crate) static ENDS: [Row<'static>; 6] = [
     },
     // one of them
     Row {
-        words: "explore f 1",
+        words: "explore f --end 1 --journal",
         out: "1 0 take 0 0\n2 0 look 0\n3 0 step 0 0 ok\n4 0 end 0 done\nunit 0 done: 0\ntally units 1 unborn 0 pool 0 stream 0 blocked 0 done 1 asked 0 access 0 steps 1\nfinished\n",
+        ..EXPLORE
+    },
+    // its report alone
+    Row {
+        words: "explore f --end 1",
+        out: "unit 0 done: 0\ntally units 1 unborn 0 pool 0 stream 0 blocked 0 done 1 asked 0 access 0 steps 1\nfinished\n",
         ..EXPLORE
     },
     // one that is not there
     Row {
-        words: "explore f 2",
+        words: "explore f --end 2",
         status: 8,
         out: "ends 1\n",
         ..EXPLORE

@@ -1,5 +1,5 @@
 -- Which status a call answers if its cause holds.
-use Rattle.std.proofs.Common.{◌≡◌, ◌≢◌, ◌<◌, ◌≤◌, ◌⊎◌, ℕ, List, [], ◌∷◌, length, Option, Some, inl, inr, refl, sym, ap, subst, ◌∙◌, arith}
+use Rattle.std.proofs.Common.{◌≡◌, ◌≢◌, ◌<◌, ◌≤◌, ◌⊎◌, ℕ, List, [], ◌∷◌, length, Option, None, Some, inl, inr, refl, sym, ap, subst, ◌∙◌, arith}
 use Rattle.std.specs.Prelude.{IfSome}
 use Rattle.std.proofs.lemmas.List.{take_all}
 use Rattle.abt_machine.specs.declared.events.Event.{Event}
@@ -22,8 +22,10 @@ use Rattle.abt_flow.specs.Confluent.{Confluent}
 use Rattle.abt_flow.specs.Flow.{Functions, IsFlow}
 use Rattle.abt_generate.proofs.GeneratedParts.{IsValid-generated}
 use Rattle.abt_outcomes.proofs.Stored.{orders-stored}
+use Rattle.abt_words.specs.declared.commands.CheckWords.{CheckWords}
 use Rattle.abt_words.specs.declared.commands.Command.{Command}
 use Rattle.abt_words.specs.declared.commands.Command.TheVariants as command
+use Rattle.abt_words.specs.declared.commands.ExploreWords.{ExploreWords}
 use Rattle.abt_words.specs.Commands.{Says}
 use Rattle.abt_words.proofs.OneCommand.{one-command}
 use Rattle.abt_workload.proofs.RoundTrip.{only-valid}
@@ -46,7 +48,7 @@ use Rattle.abt_run.specs.Status.{number_of_conclusion}
 use Rattle.abt_run.specs.declared.keeping.Keep.{Keep}
 use Rattle.abt_run.specs.Steps.{AsksBeyond, MayMake}
 use Rattle.abt_run.specs.declared.status.Conclusion.{Conclusion}
-use Rattle.abt_run.specs.declared.status.Conclusion.TheVariants.{Ended, Judged, Flows, NotConfluent, Undefined, Finishes, Sticks, GoesOn, Unexplored}
+use Rattle.abt_run.specs.declared.status.Conclusion.TheVariants.{Ended, Judged, Flows, NotConfluent, Undefined, Finishes, Sticks, GoesOn, Unexplored, Helps, NamesVersion}
 use Rattle.abt_run.proofs.Preparing.{none-is, some-is}
 use Rattle.abt_run.proofs.Stepping.{check-asks-none, flow-asks-none, same-steps}
 use Rattle.abt_run.proofs.Texts.{one-journal}
@@ -94,61 +96,78 @@ lacks-second told bytes W faults s seen reads lacks = elim lacks [ inl read ↦ 
 
 -- Commands.
 
-check-first : (v w j k : Text) → command.Check v j ≡ command.Check w k → v ≡ w
-check-first v w j k e = cc
-
-check-second : (v w j k : Text) → command.Check v j ≡ command.Check w k → j ≡ k
-check-second v w j k e = cc
+check-is : (v w : CheckWords) → command.Check v ≡ command.Check w → v ≡ w
+check-is v w e = cc
 
 flow-is : (f e : Text) → command.Flow f ≡ command.Flow e → f ≡ e
 flow-is f e same = cc
 
-check-is-no-flow : (w j f : Text) → command.Check w j ≡ command.Flow f → ⊥
-check-is-no-flow w j f e = cc
+check-is-no-flow : (w : CheckWords) (f : Text) → command.Check w ≡ command.Flow f → ⊥
+check-is-no-flow w f e = cc
 
-check-is-no-search : (w j f : Text) (end : Option ℕ) → command.Check w j ≡ command.Explore f end → ⊥
-check-is-no-search w j f end e = cc
+check-is-no-search : (w : CheckWords) (x : ExploreWords) → command.Check w ≡ command.Explore x → ⊥
+check-is-no-search w x e = cc
 
-flow-is-no-search : (f e : Text) (end : Option ℕ) → command.Flow f ≡ command.Explore e end → ⊥
-flow-is-no-search f e end same = cc
+check-is-no-help : (w : CheckWords) → command.Check w ≡ command.Help → ⊥
+check-is-no-help w e = cc
+
+check-is-no-version : (w : CheckWords) → command.Check w ≡ command.Version → ⊥
+check-is-no-version w e = cc
+
+flow-is-no-search : (f : Text) (x : ExploreWords) → command.Flow f ≡ command.Explore x → ⊥
+flow-is-no-search f x same = cc
+
+flow-is-no-help : (f : Text) → command.Flow f ≡ command.Help → ⊥
+flow-is-no-help f e = cc
+
+flow-is-no-version : (f : Text) → command.Flow f ≡ command.Version → ⊥
+flow-is-no-version f e = cc
 
 -- a command that runs a workload reads it from its file
 runs-read : (g : Given) (d : Command) (file : Text) (W : Parts) → IsFor d g W → workload_file d ≡ Some file → IsReadFrom g file W
-runs-read g (command.Run f steps journal) file W is names = subst (λ (n : Text). IsReadFrom g n W) (some-is f file names) is
+runs-read g (command.Run w) file W is names = subst (λ (n : Text). IsReadFrom g n W) (some-is w.file file names) is
 runs-read g (command.SelfRun units) file W is names = absurd (none-is file names)
-runs-read g (command.Check w j) file W is names = absurd is
+runs-read g (command.Check w) file W is names = absurd is
 runs-read g (command.Flow f) file W is names = absurd is
-runs-read g (command.Explore f end) file W is names = absurd is
+runs-read g (command.Explore w) file W is names = absurd is
+runs-read g command.Help file W is names = absurd is
+runs-read g command.Version file W is names = absurd is
 
 -- the known workload of a command is that which it runs
 runs-same : (g : Given) (d : Command) (W V : Parts) → RunsKnown d g W → IsFor d g V → V ≡ W
-runs-same g (command.Run file steps journal) W V known is = same-workload g file W V known is
+runs-same g (command.Run w) W V known is = same-workload g w.file W V known is
 runs-same g (command.SelfRun units) W V known is = is ∙ sym known
-runs-same g (command.Check w j) W V known is = absurd known
+runs-same g (command.Check w) W V known is = absurd known
 runs-same g (command.Flow f) W V known is = absurd known
-runs-same g (command.Explore f end) W V known is = absurd known
+runs-same g (command.Explore w) W V known is = absurd known
+runs-same g command.Help W V known is = absurd known
+runs-same g command.Version W V known is = absurd known
 
 -- and it is not refused
 runs-not-refused : (g : Given) (d : Command) (file : Text) (W : Parts) (line : ℕ) (f : Fault) → RunsKnown d g W → workload_file d ≡ Some file
     → IfSome (g.file file) (λ bytes. Refuses bytes line f) → ⊥
-runs-not-refused g (command.Run name steps journal) file W line f known names is =
-    not-refused g name W line f known (subst (λ (n : Text). IfSome (g.file n) (λ bytes. Refuses bytes line f)) (sym (some-is name file names)) is)
+runs-not-refused g (command.Run w) file W line f known names is =
+    not-refused g w.file W line f known (subst (λ (n : Text). IfSome (g.file n) (λ bytes. Refuses bytes line f)) (sym (some-is w.file file names)) is)
 runs-not-refused g (command.SelfRun units) file W line f known names is = none-is file names
-runs-not-refused g (command.Check w j) file W line f known names is = known
+runs-not-refused g (command.Check w) file W line f known names is = known
 runs-not-refused g (command.Flow name) file W line f known names is = known
-runs-not-refused g (command.Explore name end) file W line f known names is = known
+runs-not-refused g (command.Explore w) file W line f known names is = known
+runs-not-refused g command.Help file W line f known names is = known
+runs-not-refused g command.Version file W line f known names is = known
 
 -- and is valid
 runs-valid : (g : Given) (d : Command) (W : Parts) → Says g.words d → RunsKnown d g W → IsValid W
-runs-valid g (command.Run file steps journal) W says known = only-valid known.0 W known.2
+runs-valid g (command.Run w) W says known = only-valid known.0 W known.2
 runs-valid g (command.SelfRun units) W says known = by g.words says
   where
     by : (words : List Text) → Says words (command.SelfRun units) → IsValid W
     by [] said = absurd said
     by (name ∷ ws) said = subst IsValid (sym known) (IsValid-generated units said.1.2.3)
-runs-valid g (command.Check w j) W says known = absurd known
+runs-valid g (command.Check w) W says known = absurd known
 runs-valid g (command.Flow f) W says known = absurd known
-runs-valid g (command.Explore f end) W says known = absurd known
+runs-valid g (command.Explore w) W says known = absurd known
+runs-valid g command.Help W says known = absurd known
+runs-valid g command.Version W says known = absurd known
 
 -- What is printed determines the command.
 
@@ -163,6 +182,8 @@ module _ (g : Given) (keep : Keep) (J : Option (List Event)) (text : Text) where
   printed-says Sticks prints = (_, prints.0.asks.says)
   printed-says GoesOn prints = (_, prints.0.asks.says)
   printed-says Unexplored prints = (_, prints.0.asks.says)
+  printed-says Helps prints = (_, prints.0)
+  printed-says NamesVersion prints = (_, prints.0)
 
   module _ (d : Command) (file : Text) (says : Says g.words d) (names : workload_file d ≡ Some file) where
     ran-reads : (o : Outcome) → Ran g keep J o text → (W : Parts) × IsReadFrom g file W
@@ -175,16 +196,18 @@ module _ (g : Given) (keep : Keep) (J : Option (List Event)) (text : Text) where
 
     ends-read : (c : Conclusion) → ShowsEnds g c text → (V : Parts) × IsReadFrom g file V
     ends-read c shows =
-        let same : shows.asks.file ≡ file =
-        some-is shows.asks.file file (ap workload_file (one-command g.words (command.Explore shows.asks.file shows.asked) d shows.asks.says says) ∙ names) in
+        let same : shows.asked.file ≡ file = some-is shows.asked.file file (ap workload_file (one-command g.words (command.Explore shows.asked) d shows.asks.says says) ∙ names) in
         (shows.workload, subst (λ (n : Text). IsReadFrom g n shows.workload) same shows.asks.reads)
+
+    names-none : (e : Command) → workload_file e ≡ None → Says g.words e → ⊥
+    names-none e none said = none-is file (sym none ∙ ap workload_file (one-command g.words e d said says) ∙ names)
 
     -- a workload is read from the file that the words name
     printed-reads : (c : Conclusion) → Prints g keep c J text → (W : Parts) × IsReadFrom g file W
     printed-reads (Ended o) prints = ran-reads o prints
     printed-reads (Judged v) prints =
         let compares = prints.0.compares in
-        let same : compares.workload ≡ file = some-is compares.workload file (ap workload_file (one-command g.words (command.Check compares.workload compares.journal) d compares.says says) ∙ names) in
+        let same : compares.asked.workload ≡ file = some-is compares.asked.workload file (ap workload_file (one-command g.words (command.Check compares.asked) d compares.says says) ∙ names) in
         (prints.0.workload, subst (λ (n : Text). IsReadFrom g n prints.0.workload) same compares.reads)
     printed-reads Flows prints = flow-reads prints.0.workload prints.0.asks
     printed-reads NotConfluent prints = flow-reads prints.0.workload prints.0.asks
@@ -193,17 +216,19 @@ module _ (g : Given) (keep : Keep) (J : Option (List Event)) (text : Text) where
     printed-reads Sticks prints = ends-read Sticks prints.0
     printed-reads GoesOn prints = ends-read GoesOn prints.0
     printed-reads Unexplored prints = ends-read Unexplored prints.0
+    printed-reads Helps prints = absurd (names-none command.Help refl prints.0)
+    printed-reads NamesVersion prints = absurd (names-none command.Version refl prints.0)
 
   -- words that ask for a check print a verdict
-  module _ (w j : Text) (says : Says g.words (command.Check w j)) where
+  module _ (w : CheckWords) (says : Says g.words (command.Check w)) where
     no-run : (o : Outcome) → Ran g keep J o text → ⊥
-    no-run o ran = subst (λ (x : Command). IsFor x g ran.workload) (one-command g.words ran.command (command.Check w j) ran.says says) ran.is
+    no-run o ran = subst (λ (x : Command). IsFor x g ran.workload) (one-command g.words ran.command (command.Check w) ran.says says) ran.is
 
     no-flow : (W : Parts) → AsksFlow g W → ⊥
-    no-flow W asks = check-is-no-flow w j asks.file (one-command g.words (command.Check w j) (command.Flow asks.file) says asks.says)
+    no-flow W asks = check-is-no-flow w asks.file (one-command g.words (command.Check w) (command.Flow asks.file) says asks.says)
 
     no-ends : (c : Conclusion) → ShowsEnds g c text → ⊥
-    no-ends c shows = check-is-no-search w j shows.asks.file shows.asked (one-command g.words (command.Check w j) (command.Explore shows.asks.file shows.asked) says shows.asks.says)
+    no-ends c shows = check-is-no-search w shows.asked (one-command g.words (command.Check w) (command.Explore shows.asked) says shows.asks.says)
 
     printed-verdict : (c : Conclusion) → Prints g keep c J text → (v : Verdict) × HasVerdict g v × (c ≡ Judged v)
     printed-verdict (Ended o) prints = absurd (no-run o prints)
@@ -215,13 +240,15 @@ module _ (g : Given) (keep : Keep) (J : Option (List Event)) (text : Text) where
     printed-verdict Sticks prints = absurd (no-ends Sticks prints.0)
     printed-verdict GoesOn prints = absurd (no-ends GoesOn prints.0)
     printed-verdict Unexplored prints = absurd (no-ends Unexplored prints.0)
+    printed-verdict Helps prints = absurd (check-is-no-help w (one-command g.words (command.Check w) command.Help says prints.0))
+    printed-verdict NamesVersion prints = absurd (check-is-no-version w (one-command g.words (command.Check w) command.Version says prints.0))
 
     -- and the journal is read from the second file
-    compared-journal : (W : Parts) (Is : Text → Type 0) → Compares g W Is → IsReadFrom g w W × IfSome (g.file j) Is
+    compared-journal : (W : Parts) (Is : Text → Type 0) → Compares g W Is → IsReadFrom g w.workload W × IfSome (g.file w.journal) Is
     compared-journal W Is compares =
-        let same = one-command g.words (command.Check compares.workload compares.journal) (command.Check w j) compares.says says in (
-          subst (λ (n : Text). IsReadFrom g n W) (check-first _ _ _ _ same) compares.reads,
-          subst (λ (n : Text). IfSome (g.file n) Is) (check-second _ _ _ _ same) compares.is,
+        let same : compares.asked ≡ w = check-is compares.asked w (one-command g.words (command.Check compares.asked) (command.Check w) compares.says says) in (
+          subst (λ (x : CheckWords). IsReadFrom g x.workload W) same compares.reads,
+          subst (λ (x : CheckWords). IfSome (g.file x.journal) Is) same compares.is,
         )
 
   module _ (file : Text) (says : Says g.words (command.Flow file)) where
@@ -229,10 +256,10 @@ module _ (g : Given) (keep : Keep) (J : Option (List Event)) (text : Text) where
     flow-no-run o ran = subst (λ (x : Command). IsFor x g ran.workload) (one-command g.words ran.command (command.Flow file) ran.says says) ran.is
 
     flow-no-check : (W : Parts) (Is : Text → Type 0) → Compares g W Is → ⊥
-    flow-no-check W Is compares = check-is-no-flow _ _ file (one-command g.words (command.Check compares.workload compares.journal) (command.Flow file) compares.says says)
+    flow-no-check W Is compares = check-is-no-flow _ file (one-command g.words (command.Check compares.asked) (command.Flow file) compares.says says)
 
     flow-no-ends : (c : Conclusion) → ShowsEnds g c text → ⊥
-    flow-no-ends c shows = flow-is-no-search file shows.asks.file shows.asked (one-command g.words (command.Flow file) (command.Explore shows.asks.file shows.asked) says shows.asks.says)
+    flow-no-ends c shows = flow-is-no-search file shows.asked (one-command g.words (command.Flow file) (command.Explore shows.asked) says shows.asks.says)
 
     flow-asked : (W V : Parts) → Tells g file (λ bytes. Reads bytes W) → AsksFlow g V → V ≡ W
     flow-asked W V tells asks =
@@ -259,6 +286,8 @@ runs-concluded Finishes call text d W prints says known = absurd (subst (λ (x :
 runs-concluded Sticks call text d W prints says known = absurd (subst (λ (x : Command). RunsKnown x call.given W) (one-command call.given.words d _ says prints.0.asks.says) known)
 runs-concluded GoesOn call text d W prints says known = absurd (subst (λ (x : Command). RunsKnown x call.given W) (one-command call.given.words d _ says prints.0.asks.says) known)
 runs-concluded Unexplored call text d W prints says known = absurd (subst (λ (x : Command). RunsKnown x call.given W) (one-command call.given.words d _ says prints.0.asks.says) known)
+runs-concluded Helps call text d W prints says known = absurd (subst (λ (x : Command). RunsKnown x call.given W) (one-command call.given.words d _ says prints.0) known)
+runs-concluded NamesVersion call text d W prints says known = absurd (subst (λ (x : Command). RunsKnown x call.given W) (one-command call.given.words d _ says prints.0) known)
 
 -- words that say a command and do not ask for too many steps are not refused
 not-bad-words : (g : Given) (d : Command) → Says g.words d → (AsksBeyond g → ⊥) → IsBadCommand g → ⊥
@@ -290,26 +319,26 @@ decided W Z J (verdict.Bad at) is = inr (
   refl,
 )
 
-module _ (c : Call) (w j : Text) (W : Parts) (J : List Event) (says : Says c.given.words (command.Check w j))
-    (tells : Tells c.given w (λ bytes. Reads bytes W)) (also : Tells c.given j (IsTextOf J)) where
+module _ (c : Call) (w : CheckWords) (W : Parts) (J : List Event) (says : Says c.given.words (command.Check w))
+    (tells : Tells c.given w.workload (λ bytes. Reads bytes W)) (also : Tells c.given w.journal (IsTextOf J)) where
   checked-verdict : (v : Verdict) → HasVerdict c.given v → Decides (number_of_conclusion (Judged v)) (IsStampedRun W c.given.stored J)
   checked-verdict v has =
-      let read = compared-journal c.given c.keep c.journal [] w j says has.workload (IsTextOf has.journal) has.compares in
-      let same : has.workload ≡ W = same-workload c.given w W has.workload tells read.0 in
-      let equal : has.journal ≡ J = same-journal c.given j J has.journal also read.1 in
+      let read = compared-journal c.given c.keep c.journal [] w says has.workload (IsTextOf has.journal) has.compares in
+      let same : has.workload ≡ W = same-workload c.given w.workload W has.workload tells read.0 in
+      let equal : has.journal ≡ J = same-journal c.given w.journal J has.journal also read.1 in
       decided W c.given.stored J v (subst (λ (V : Parts). IsJudged V c.given.stored J v) same (subst (λ (K : List Event). IsJudged has.workload c.given.stored K v) equal has.judged))
 
   checks : (s : Status Conclusion) → Holds (program c) c.left s → IsStill c.left → Decides (number_of number_of_conclusion s) (IsStampedRun W c.given.stored J) ⊎ (number_of number_of_conclusion s ≡ 7)
   checks (Concluded k) h still =
-      let has = printed-verdict c.given c.keep c.journal h.text w j says k h.prints in
+      let has = printed-verdict c.given c.keep c.journal h.text w says k h.prints in
       inl (subst (λ (x : Conclusion). Decides (number_of_conclusion x) (IsStampedRun W c.given.stored J)) (sym has.2) (checked-verdict has.0 has.1))
-  checks (Stopped BadWords) h still = absurd (not-bad-words c.given _ says (check-asks-none c.given w j says) h.cause.why)
+  checks (Stopped BadWords) h still = absurd (not-bad-words c.given _ says (check-asks-none c.given w says) h.cause.why)
   checks (Stopped (BadLine line (Workload f))) h still =
       let named = h.cause.why.named in
-      let same : named.file ≡ w = some-is _ _ (sym named.names ∙ ap workload_file (one-command c.given.words named.command (command.Check w j) named.says says)) in
-      absurd (not-refused c.given w W line f tells (subst (λ (n : Text). IfSome (c.given.file n) (λ bytes. Refuses bytes line f)) same h.cause.why.is))
+      let same : named.file ≡ w.workload = some-is _ _ (sym named.names ∙ ap workload_file (one-command c.given.words named.command (command.Check w) named.says says)) in
+      absurd (not-refused c.given w.workload W line f tells (subst (λ (n : Text). IfSome (c.given.file n) (λ bytes. Refuses bytes line f)) same h.cause.why.is))
   checks (Stopped (BadLine line Journal)) h still =
-      absurd (not-bad c.given j J line also (compared-journal c.given c.keep c.journal [] w j says h.cause.why.0 (λ bytes. IsNoJournalAt bytes line) h.cause.why.1).1)
+      absurd (not-bad c.given w.journal J line also (compared-journal c.given c.keep c.journal [] w says h.cause.why.0 (λ bytes. IsNoJournalAt bytes line) h.cause.why.1).1)
   checks (Stopped (BadLine line Lives)) h still = absurd h.cause.why
   checks (Stopped CannotRead) h still = absurd (still.0 h.cause.why.1)
   checks (Stopped OutOfMemory) h still = inr refl
@@ -335,6 +364,8 @@ module _ (c : Call) (file : Text) (W : Parts) (says : Says c.given.words (comman
   flow-concluded Sticks text prints = absurd (flow-no-ends c.given c.keep c.journal text file says Sticks prints.0)
   flow-concluded GoesOn text prints = absurd (flow-no-ends c.given c.keep c.journal text file says GoesOn prints.0)
   flow-concluded Unexplored text prints = absurd (flow-no-ends c.given c.keep c.journal text file says Unexplored prints.0)
+  flow-concluded Helps text prints = absurd (flow-is-no-help file (one-command c.given.words (command.Flow file) command.Help says prints.0))
+  flow-concluded NamesVersion text prints = absurd (flow-is-no-version file (one-command c.given.words (command.Flow file) command.Version says prints.0))
 
   flows : (s : Status Conclusion) → Holds (program c) c.left s → IsStill c.left → Decides (number_of number_of_conclusion s) (HasFlows c.given.stored.returns W) ⊎ (number_of number_of_conclusion s ≡ 7)
   flows (Concluded k) h still = inl (flow-concluded k h.text h.prints)
@@ -374,6 +405,8 @@ module _ (c : Call) (d : Command) (W : Parts) (steps : ℕ) (two : 2 ≤ length 
   spends-concluded Sticks text prints = absurd (subst (λ (x : Command). RunsKnown x c.given W) (one-command c.given.words d _ says prints.0.asks.says) known)
   spends-concluded GoesOn text prints = absurd (subst (λ (x : Command). RunsKnown x c.given W) (one-command c.given.words d _ says prints.0.asks.says) known)
   spends-concluded Unexplored text prints = absurd (subst (λ (x : Command). RunsKnown x c.given W) (one-command c.given.words d _ says prints.0.asks.says) known)
+  spends-concluded Helps text prints = λ e. absurd (omega arith)
+  spends-concluded NamesVersion text prints = λ e. absurd (omega arith)
 
   spends : (s : Status Conclusion) → Holds (program c) c.left s → number_of number_of_conclusion s ≢ 4
   spends (Concluded k) h = spends-concluded k h.text h.prints
@@ -398,18 +431,18 @@ refuses CannotWrite c d file h says names tells within still =
     absurd (not-read c.given file read.0 tells read.1)
 
 -- and one that is no journal's
-refuses-journal : (s : Status Conclusion) (c : Call) (w j : Text) → Holds (program c) c.left s → Says c.given.words (command.Check w j)
-    → Tells c.given j (λ bytes. (J : List Event) → IsTextOf J bytes → ⊥) → (Grew c.left.read_faults → ⊥) → (number_of number_of_conclusion s ≡ 3) ⊎ (number_of number_of_conclusion s ≡ 7)
-refuses-journal (Concluded k) c w j h says tells still =
-    let has = printed-verdict c.given c.keep c.journal h.text w j says k h.prints in
-    absurd (not-journal c.given j has.1.journal tells (compared-journal c.given c.keep c.journal [] w j says has.1.workload (IsTextOf has.1.journal) has.1.compares).1)
-refuses-journal (Stopped BadWords) c w j h says tells still = absurd (not-bad-words c.given _ says (check-asks-none c.given w j says) h.cause.why)
-refuses-journal (Stopped (BadLine line wrong)) c w j h says tells still = inl refl
-refuses-journal (Stopped CannotRead) c w j h says tells still = absurd (still h.cause.why.1)
-refuses-journal (Stopped OutOfMemory) c w j h says tells still = inr refl
-refuses-journal CannotWrite c w j h says tells still =
-    let has = printed-verdict c.given c.keep c.journal h.text w j says h.conclusion h.prints in
-    absurd (not-journal c.given j has.1.journal tells (compared-journal c.given c.keep c.journal [] w j says has.1.workload (IsTextOf has.1.journal) has.1.compares).1)
+refuses-journal : (s : Status Conclusion) (c : Call) (w : CheckWords) → Holds (program c) c.left s → Says c.given.words (command.Check w)
+    → Tells c.given w.journal (λ bytes. (J : List Event) → IsTextOf J bytes → ⊥) → (Grew c.left.read_faults → ⊥) → (number_of number_of_conclusion s ≡ 3) ⊎ (number_of number_of_conclusion s ≡ 7)
+refuses-journal (Concluded k) c w h says tells still =
+    let has = printed-verdict c.given c.keep c.journal h.text w says k h.prints in
+    absurd (not-journal c.given w.journal has.1.journal tells (compared-journal c.given c.keep c.journal [] w says has.1.workload (IsTextOf has.1.journal) has.1.compares).1)
+refuses-journal (Stopped BadWords) c w h says tells still = absurd (not-bad-words c.given _ says (check-asks-none c.given w says) h.cause.why)
+refuses-journal (Stopped (BadLine line wrong)) c w h says tells still = inl refl
+refuses-journal (Stopped CannotRead) c w h says tells still = absurd (still h.cause.why.1)
+refuses-journal (Stopped OutOfMemory) c w h says tells still = inr refl
+refuses-journal CannotWrite c w h says tells still =
+    let has = printed-verdict c.given c.keep c.journal h.text w says h.conclusion h.prints in
+    absurd (not-journal c.given w.journal has.1.journal tells (compared-journal c.given c.keep c.journal [] w says has.1.workload (IsTextOf has.1.journal) has.1.compares).1)
 
 -- words that say no command are refused
 refuses-words : (s : Status Conclusion) (c : Call) → Holds (program c) c.left s → SaysNothing c.given.words → (number_of number_of_conclusion s ≡ 2) ⊎ (number_of number_of_conclusion s ≡ 7)
@@ -440,6 +473,8 @@ none-concludes n high low Finishes = λ e. absurd (omega arith)
 none-concludes n high low Sticks = λ e. absurd (omega arith)
 none-concludes n high low GoesOn = λ e. absurd (omega arith)
 none-concludes n high low Unexplored = λ e. absurd (omega arith)
+none-concludes n high low Helps = λ e. absurd (omega arith)
+none-concludes n high low NamesVersion = λ e. absurd (omega arith)
 
 -- a call that ended with this exit status is answered
 pub answered : (n : ℕ) (c : Call) → 2 ≤ length c.given.stored.orders → EndsBy (program c) c.left n → MissesFiles n c → MissesJournals n c → RefusesSteps n c → (HasReadFault c.left → (n ≡ 5) ⊎ (n ≡ 7)) → IsAnswered n c
@@ -448,10 +483,10 @@ answered n c two ends absent missing exceeds faulty = by ends.0 ends.1 ends.2 wh
   by s is h = subst (λ m. IsAnswered m c) (sym is) (record {
     cause = (s, refl, h);
     complete = λ d W says known within still. runs s c d W h says known within still;
-    checks = λ w j W J says tells also still. checks c w j W J says tells also s h still;
+    checks = λ w W J says tells also still. checks c w W J says tells also s h still;
     flows = λ file W says tells still. flows c file W says tells s h still;
     texts = λ d file says names tells within still. refuses s c d file h says names tells within still;
-    journals = λ w j W says tells also still. refuses-journal s c w j h says also still;
+    journals = λ w W says tells also still. refuses-journal s c w h says also still;
     words = refuses-words s c h;
     steps = subst (λ m. RefusesSteps m c) is exceeds;
     spends = λ d W steps says known may none few. spends c d W steps two says known may none few s h;

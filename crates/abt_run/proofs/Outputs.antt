@@ -1,5 +1,5 @@
 -- What a run prints and keeps, by what it leaves.
-use Rattle.std.proofs.Common.{◌≡◌, ◌∙◌, ◌++◌, ◌<◌, ℕ, Bool, true, false, List, [], length, Option, Some, None, ap, arith, refl, subst, sym}
+use Rattle.std.proofs.Common.{◌≡◌, ◌∙◌, ◌++◌, append-nil, ◌<◌, ℕ, Bool, true, false, List, [], length, Option, Some, None, ap, arith, refl, subst, sym}
 use Rattle.std.specs.Prelude.{IfSome, if◌then◌else◌}
 use Rattle.std.proofs.lemmas.List.{length-map}
 use Rattle.std.proofs.lemmas.List.FromFn.{length-map-range_with_len}
@@ -8,14 +8,17 @@ use Rattle.abt_machine.specs.declared.events.Outcome.{Outcome}
 use Rattle.abt_machine.specs.declared.workload.Parts.{Parts}
 use Rattle.abt_machine.specs.Outcomes.{steps_in}
 use Rattle.abt_machine.specs.Runs.{last_state}
+use Rattle.abt_machine.specs.Stored.{Stored}
 use Rattle.abt_machine.specs.Texts.{journal_text, report_of, report_text, short_of, short_text, shown_units}
 use Rattle.abt_machine.specs.Words.{Text}
 use Rattle.abt_drain.specs.declared.run.Run.{Run}
-use Rattle.abt_drain.specs.Ends.{IsLeftOf}
+use Rattle.abt_drain.specs.Ends.{IsLeftOf, LeavesRun}
 use Rattle.abt_record.specs.Records.{IsKept}
 use Rattle.abt_report.specs.Pictures.{IsPictureOf, unit_in_row, units_in_rows}
-use Rattle.abt_run.specs.Kept.{keeps}
-use Rattle.abt_run.specs.Printed.{IsShownIn}
+use Rattle.abt_why.specs.Texts.{why_text}
+use Rattle.abt_words.specs.declared.commands.Schedule.TheVariants as schedule
+use Rattle.abt_run.specs.Kept.{either, keeps}
+use Rattle.abt_run.specs.Printed.{IsShownIn, LeavesScheduled}
 use Rattle.abt_run.specs.declared.keeping.Keep.{Keep}
 use Rattle.abt_run.specs.declared.keeping.Keep.TheVariants as keep
 
@@ -24,7 +27,23 @@ is-there : (J : List Event) (kept : Option (List Event)) → IsKept true J kept 
 is-there J (Some list) is = ap Some is
 is-there J None is = absurd is
 
--- one that is printed is kept
+-- what holds of the journal holds of what is kept of it
+pub kept-has : (P : List Event → Type 0) (b : Bool) (J : List Event) (kept : Option (List Event)) → IsKept b J kept → P J → IfSome kept P
+kept-has P true J (Some list) is holds = subst P (sym is) holds
+kept-has P true J None is holds = tt
+kept-has P false J (Some list) is holds = absurd is
+kept-has P false J None is holds = tt
+
+-- of two that are asked for, either is
+either-first : (a b : Bool) → a ≡ true → either a b ≡ true
+either-first true b asked = refl
+either-first false b asked = cc
+
+either-second : (a b : Bool) → b ≡ true → either a b ≡ true
+either-second true b asked = refl
+either-second false b asked = asked
+
+-- one that is needed is kept
 pub printed-there : (k : Keep) (prints : Bool) (J : List Event) (kept : Option (List Event)) → IsKept (keeps k prints) J kept → prints ≡ true → kept ≡ Some J
 printed-there keep.Always prints J kept is asked = is-there J kept is
 printed-there keep.IfPrinted prints J kept is asked = is-there J kept (subst (λ (b : Bool). IsKept b J kept) asked is)
@@ -41,16 +60,28 @@ module _ (W : Parts) (J : List Event) (left : Run) where
       ap (λ us. short_of W us left.steps o) (sym shown.picture.shown) ∙ ap (λ n. short_of W (shown_units W (last_state W J)) n o) shown.steps
 
   -- what is printed of the journal is its text, if it is asked for
-  asked-text : (prints : Bool) (front : Text) → IsShownIn W prints J left → (prints ≡ true → IfSome left.journal (λ journal. front ≡ journal_text journal)) → (prints ≡ false → front ≡ [])
-      → front ≡ (if prints then journal_text J else [])
-  asked-text true front shown asked unasked = subst (λ (kept : Option (List Event)). IfSome kept (λ journal. front ≡ journal_text journal)) (shown.journal refl) (asked refl)
-  asked-text false front shown asked unasked = unasked refl
+  asked-text : (needs prints : Bool) (front : Text) → IsShownIn W needs J left → (prints ≡ true → needs ≡ true) → (prints ≡ true → IfSome left.journal (λ journal. front ≡ journal_text journal))
+      → (prints ≡ false → front ≡ []) → front ≡ (if prints then journal_text J else [])
+  asked-text needs true front shown needed asked unasked = subst (λ (kept : Option (List Event)). IfSome kept (λ journal. front ≡ journal_text journal)) (shown.journal (needed refl)) (asked refl)
+  asked-text needs false front shown needed asked unasked = unasked refl
 
-  -- and the report follows
-  pub output-shown : (prints : Bool) (o : Outcome) (front text : Text) → IsShownIn W prints J left → (prints ≡ true → IfSome left.journal (λ journal. front ≡ journal_text journal)) → (prints ≡ false → front ≡ [])
-      → text ≡ front ++ report_of W (units_in_rows left.picture) left.steps o → text ≡ (if prints then journal_text J else []) ++ report_text W (last_state W J) (steps_in J) o
-  output-shown prints o front text shown asked unasked is =
-      is ∙ (ap (λ xs. xs ++ report_of W (units_in_rows left.picture) left.steps o) (asked-text prints front shown asked unasked) ∙ ap (λ xs. (if prints then journal_text J else []) ++ xs) (report-shown prints o shown))
+  -- what units wait for follows, if it is asked for
+  said-text : (needs says : Bool) (front text : Text) → IsShownIn W needs J left → (says ≡ true → needs ≡ true)
+      → (says ≡ true → IfSome left.journal (λ journal. text ≡ front ++ why_text W (last_state W journal))) → (says ≡ false → text ≡ front) → text ≡ front ++ (if says then why_text W (last_state W J) else [])
+  said-text needs true front text shown needed asked unasked =
+      subst (λ (kept : Option (List Event)). IfSome kept (λ journal. text ≡ front ++ why_text W (last_state W journal))) (shown.journal (needed refl)) (asked refl)
+  said-text needs false front text shown needed asked unasked = unasked refl ∙ sym (append-nil front)
+
+  -- and the report stands between both
+  pub output-shown : (prints says : Bool) (o : Outcome) (front report text : Text) → IsShownIn W (either prints says) J left → (prints ≡ true → IfSome left.journal (λ journal. front ≡ journal_text journal)) → (prints ≡ false → front ≡ [])
+      → report ≡ front ++ report_of W (units_in_rows left.picture) left.steps o
+      → (says ≡ true → IfSome left.journal (λ journal. text ≡ report ++ why_text W (last_state W journal))) → (says ≡ false → text ≡ report)
+      → text ≡ ((if prints then journal_text J else []) ++ report_text W (last_state W J) (steps_in J) o) ++ (if says then why_text W (last_state W J) else [])
+  output-shown prints says o front report text shown asked unasked is said unsaid =
+      said-text (either prints says) says report text shown (either-second prints says) said unsaid
+      ∙ ap (λ xs. xs ++ (if says then why_text W (last_state W J) else []))
+      (is ∙ (ap (λ xs. xs ++ report_of W (units_in_rows left.picture) left.steps o) (asked-text (either prints says) prints front shown (either-first prints says) asked unasked)
+      ∙ ap (λ xs. (if prints then journal_text J else []) ++ xs) (report-shown (either prints says) o shown)))
 
 -- a picture has a row for each unit
 pub some-row : (W : Parts) (J : List Event) (left : Run) → IsPictureOf W J left.picture → 0 < length W.units → 0 < length left.picture
@@ -66,3 +97,7 @@ shown-in W k prints kept Property left e is = record {
   steps = is.counted;
   journal = printed-there k prints is.events left.journal (subst (λ (b : Bool). IsKept b is.events left.journal) e is.kept);
 }
+
+-- streams on threads take any turns
+pub by_threads : (W : Parts) (Z : Stored) (n : ℕ) (kept : Bool) (left : Run) → LeavesRun W Z n kept left → LeavesScheduled schedule.Threads W Z n kept left
+by_threads W Z n kept left is = record { events = is.events; holds = (is.holds, tt); kept = is.kept; pictured = is.pictured; counted = is.counted }

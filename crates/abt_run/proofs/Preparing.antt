@@ -1,5 +1,5 @@
 -- From what is known of one file to what is known of a call.
-use Rattle.std.proofs.Common.{◌≡◌, ◌∙◌, ◌<◌, ◌≤◌, ℕ, Bool, List, length, map, Option, Some, None, inr, ap, refl, subst, sym, arith}
+use Rattle.std.proofs.Common.{◌≡◌, ◌∙◌, ◌<◌, ◌≤◌, ℕ, List, length, map, Option, Some, None, inr, ap, refl, subst, sym, arith}
 use Rattle.std.specs.Prelude.{⊤}
 use Rattle.std.proofs.lemmas.List.{length-map}
 use Rattle.abt_machine.specs.declared.events.Event.{Event}
@@ -7,8 +7,10 @@ use Rattle.abt_machine.specs.declared.events.Outcome.{Outcome}
 use Rattle.abt_machine.specs.declared.workload.Parts.{Parts}
 use Rattle.abt_machine.specs.Words.{Text}
 use Rattle.abt_generate.specs.Generated.{generated}
+use Rattle.abt_words.specs.declared.commands.CheckWords.{CheckWords}
 use Rattle.abt_words.specs.declared.commands.Command.{Command}
 use Rattle.abt_words.specs.declared.commands.Command.TheVariants as command
+use Rattle.abt_words.specs.declared.commands.RunWords.{RunWords}
 use Rattle.abt_words.specs.Commands.{Says}
 use Rattle.abt_words.proofs.OneCommand.{one-command}
 use Rattle.abt_shell.specs.Fetched.{HasNoJournal, IsNoJournalLine}
@@ -52,27 +54,27 @@ no-workload-stops s g d file faults says names = stops-file (IsBadCommand g) (Na
   bad line Lives h = absurd h
 
 -- and so is why its workload is not run
-pub no-run-stops : (s : Stop) (g : Given) (file : Text) (asked : Option ℕ) (journal : Bool) (faults : ℕ × ℕ) → Says g.words (command.Run file asked journal) → HasNoRun (g.file file) asked faults s → StopsCommand g faults s
-no-run-stops s g file asked journal faults says = stops-more (Exceeds (g.file file) asked) (IsBadCommand g) ⊤ (NamesFile g.words) (IsNoWorkload (g.file file)) (IsBadLine g) faults faults beyond (λ known. named) bad (λ grew. grew) s where
-  beyond : Exceeds (g.file file) asked → IsBadCommand g
-  beyond exceeds = inr (record { file = file; asked = asked; journal = journal; says = says; exceeds = exceeds })
+pub no-run-stops : (s : Stop) (g : Given) (w : RunWords) (faults : ℕ × ℕ) → Says g.words (command.Run w) → HasNoRun (g.file w.file) w.steps faults s → StopsCommand g faults s
+no-run-stops s g w faults says = stops-more (Exceeds (g.file w.file) w.steps) (IsBadCommand g) ⊤ (NamesFile g.words) (IsNoWorkload (g.file w.file)) (IsBadLine g) faults faults beyond (λ known. named) bad (λ grew. grew) s where
+  beyond : Exceeds (g.file w.file) w.steps → IsBadCommand g
+  beyond exceeds = inr (record { asked = w; says = says; exceeds = exceeds })
 
   named : NamesFile g.words
-  named = record { command = command.Run file asked journal; file = file; says = says; names = refl }
+  named = record { command = command.Run w; file = w.file; says = says; names = refl }
 
-  bad : (line : ℕ) (w : Wrong) → IsNoWorkload (g.file file) line w → IsBadLine g line w
+  bad : (line : ℕ) (wrong : Wrong) → IsNoWorkload (g.file w.file) line wrong → IsBadLine g line wrong
   bad line (Workload f) h = record { named = named; is = h }
   bad line Journal h = absurd h
   bad line Lives h = absurd h
 
 -- and so is why the other file has no journal
-pub no-journal-stops : (s : Stop) (g : Given) (w j : Text) (W : Parts) (told : Option Text) (a b c : ℕ) → Says g.words (command.Check w j) → IsReadFrom g w W → told ≡ g.file j
+pub no-journal-stops : (s : Stop) (g : Given) (w : CheckWords) (W : Parts) (told : Option Text) (a b c : ℕ) → Says g.words (command.Check w) → IsReadFrom g w.workload W → told ≡ g.file w.journal
     → a ≤ b → b ≤ c → HasNoJournal told (b, c) s → StopsCommand g (a, c) s
-no-journal-stops s g w j W told a b c says reads same first second =
-    stops-file (IsBadCommand g) (NamesFile g.words) (IsNoJournalLine told) (IsBadLine g) (b, c) (a, c) (record { command = command.Check w j; file = w; says = says; names = refl }) bad (grew-later a b c first second) s where
+no-journal-stops s g w W told a b c says reads same first second =
+    stops-file (IsBadCommand g) (NamesFile g.words) (IsNoJournalLine told) (IsBadLine g) (b, c) (a, c) (record { command = command.Check w; file = w.workload; says = says; names = refl }) bad (grew-later a b c first second) s where
       bad : (line : ℕ) (wrong : Wrong) → IsNoJournalLine told line wrong → IsBadLine g line wrong
       bad line (Workload f) h = absurd h
-      bad line Journal h = (W, record { workload = w; journal = j; says = says; reads = reads; is = subst (λ (o : Option Text). IsNoJournalLine o line Journal) same h })
+      bad line Journal h = (W, record { asked = w; says = says; reads = reads; is = subst (λ (o : Option Text). IsNoJournalLine o line Journal) same h })
       bad line Lives h = absurd h
 
 -- a workload that is made of a number has a unit

@@ -1,5 +1,5 @@
 -- How many steps each stream may make, by what was read of a file.
-use Rattle.std.proofs.Common.{◌≡◌, ◌⊎◌, ◌<◌, ◌≤◌, ◌∙◌, ℕ, suc, Bool, take, Option, Some, None, inl, inr, refl, sym, ap, subst, arith}
+use Rattle.std.proofs.Common.{◌≡◌, ◌⊎◌, ◌<◌, ◌≤◌, ◌∙◌, ℕ, suc, take, Option, Some, None, inl, inr, sym, ap, subst, arith}
 use Rattle.std.specs.Prelude.{IfSome, ⊤}
 use Rattle.abt_machine.specs.declared.grammar.Format.{Format}
 use Rattle.abt_machine.specs.declared.grammar.Format.TheVariants as format
@@ -14,8 +14,10 @@ use Rattle.abt_shell.specs.Told.{Grew}
 use Rattle.abt_shell.specs.declared.status.Stop.{Stop}
 use Rattle.abt_shell.specs.declared.status.Stop.TheVariants.{BadWords, BadLine, CannotRead, OutOfMemory}
 use Rattle.abt_shell.proofs.Fetched.{of-observed, stops-more}
+use Rattle.abt_words.specs.declared.commands.CheckWords.{CheckWords}
 use Rattle.abt_words.specs.declared.commands.Command.{Command}
 use Rattle.abt_words.specs.declared.commands.Command.TheVariants as command
+use Rattle.abt_words.specs.declared.commands.RunWords.{RunWords}
 use Rattle.abt_words.specs.Commands.{Says}
 use Rattle.abt_words.specs.Steps.{AsksTooMany, LetsMake, step_limit_of}
 use Rattle.abt_words.proofs.OneCommand.{one-command}
@@ -73,42 +75,38 @@ same-number told bytes asked m n seen one two =
 
 -- a command whose workload is known lets each stream make one number of steps
 pub same-steps : (g : Given) (d : Command) (W : Parts) (m n : ℕ) → RunsKnown d g W → MayMake d g m → MayMake d g n → m ≡ n
-same-steps g (command.Run file asked journal) W m n known one two = same-number (g.file file) known.0 asked m n known.1 one two
+same-steps g (command.Run w) W m n known one two = same-number (g.file w.file) known.0 w.steps m n known.1 one two
 same-steps g (command.SelfRun units) W m n known one two = one ∙ sym two
-same-steps g (command.Check w j) W m n known one two = absurd one
+same-steps g (command.Check w) W m n known one two = absurd one
 same-steps g (command.Flow file) W m n known one two = absurd one
-same-steps g (command.Explore file end) W m n known one two = absurd one
+same-steps g (command.Explore w) W m n known one two = absurd one
+same-steps g command.Help W m n known one two = absurd one
+same-steps g command.Version W m n known one two = absurd one
 
 -- Commands.
 
-run-file : (e f : Text) (a b : Option ℕ) (j k : Bool) → command.Run e a j ≡ command.Run f b k → e ≡ f
-run-file e f a b j k same = cc
-
-run-asked : (e f : Text) (a b : Option ℕ) (j k : Bool) → command.Run e a j ≡ command.Run f b k → a ≡ b
-run-asked e f a b j k same = cc
+run-is : (v w : RunWords) → command.Run v ≡ command.Run w → v ≡ w
+run-is v w same = cc
 
 -- equal commands ask for the same steps of the same file
-pub exceeds-same : (file_of : Text → Option Text) (e f now : Text) (a b : Option ℕ) (j k : Bool) → command.Run e a j ≡ command.Run f b k → f ≡ now → ExceedsKnown (file_of e) a → ExceedsKnown (file_of now) b
-exceeds-same file_of e f now a b j k same is known =
-    subst (λ (asked : Option ℕ). ExceedsKnown (file_of now) asked) (run-asked e f a b j k same)
-    (subst (λ (name : Text). ExceedsKnown (file_of name) a) (run-file e f a b j k same ∙ is) known)
+pub exceeds-same : (file_of : Text → Option Text) (v w : RunWords) (now : Text) → command.Run v ≡ command.Run w → w.file ≡ now → ExceedsKnown (file_of v.file) v.steps → ExceedsKnown (file_of now) w.steps
+exceeds-same file_of v w now same is known =
+    let equal : v ≡ w = run-is v w same in
+    subst (λ (name : Text). ExceedsKnown (file_of name) w.steps) is (subst (λ (x : RunWords). ExceedsKnown (file_of x.file) x.steps) equal known)
 
 -- Commands that ask for no steps.
 
-run-is-no-check : (file w j : Text) (asked : Option ℕ) (b : Bool) → command.Run file asked b ≡ command.Check w j → ⊥
-run-is-no-check file w j asked b e = cc
+run-is-no-check : (v : RunWords) (w : CheckWords) → command.Run v ≡ command.Check w → ⊥
+run-is-no-check v w e = cc
 
-run-is-no-search : (file f : Text) (asked end : Option ℕ) (b : Bool) → command.Run file asked b ≡ command.Explore f end → ⊥
-run-is-no-search file f asked end b e = cc
+run-is-no-flow : (v : RunWords) (f : Text) → command.Run v ≡ command.Flow f → ⊥
+run-is-no-flow v f e = cc
 
-run-is-no-flow : (file f : Text) (asked : Option ℕ) (b : Bool) → command.Run file asked b ≡ command.Flow f → ⊥
-run-is-no-flow file f asked b e = cc
-
-pub check-asks-none : (g : Given) (w j : Text) → Says g.words (command.Check w j) → AsksBeyond g → ⊥
-check-asks-none g w j says beyond = run-is-no-check _ w j _ _ (one-command g.words (command.Run beyond.file beyond.asked beyond.journal) (command.Check w j) beyond.says says)
+pub check-asks-none : (g : Given) (w : CheckWords) → Says g.words (command.Check w) → AsksBeyond g → ⊥
+check-asks-none g w says beyond = run-is-no-check _ w (one-command g.words (command.Run beyond.asked) (command.Check w) beyond.says says)
 
 pub flow-asks-none : (g : Given) (file : Text) → Says g.words (command.Flow file) → AsksBeyond g → ⊥
-flow-asks-none g file says beyond = run-is-no-flow _ file _ _ (one-command g.words (command.Run beyond.file beyond.asked beyond.journal) (command.Flow file) beyond.says says)
+flow-asks-none g file says beyond = run-is-no-flow _ file (one-command g.words (command.Run beyond.asked) (command.Flow file) beyond.says says)
 
 -- Reasons to stop.
 

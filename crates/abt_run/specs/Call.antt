@@ -1,5 +1,5 @@
 -- What each status says about what a call of the program left, and when it comes.
-use Rattle.std.specs.Prelude.{◌≡◌, ◌≢◌, ◌≤◌, ◌⊎◌, ℕ, Bool, List, Option, Some, None}
+use Rattle.std.specs.Prelude.{◌≡◌, ◌≢◌, ◌≤◌, ◌⊎◌, ℕ, List, Option, Some, None}
 use Rattle.abt_machine.specs.declared.events.Event.{Event}
 use Rattle.abt_machine.specs.declared.events.Piece.{Piece}
 use Rattle.abt_machine.specs.declared.workload.Parts.{Parts}
@@ -14,8 +14,10 @@ use Rattle.abt_report.specs.Journals.{IsTextOf}
 use Rattle.abt_shell.specs.Calls.{EndsBy, HasReadFault, IsStill, Left, Program}
 use Rattle.abt_shell.specs.Told.{Grew}
 use Rattle.abt_shell.specs.declared.status.Stop.{Stop}
+use Rattle.abt_words.specs.declared.commands.CheckWords.{CheckWords}
 use Rattle.abt_words.specs.declared.commands.Command.{Command}
 use Rattle.abt_words.specs.declared.commands.Command.TheVariants as command
+use Rattle.abt_words.specs.declared.commands.RunWords.{RunWords}
 use Rattle.abt_words.specs.Commands.{Says}
 use Rattle.abt_run.specs.Given.{Given, SaysNothing, Tells, workload_file}
 use Rattle.abt_run.specs.Prepared.{StopsCommand}
@@ -54,11 +56,13 @@ program c = record {
 
 -- the command runs W, and W is known: it is read from bytes that are observable, or made of the number of units
 abbrev pub RunsKnown : Command → Given → Parts → Type 0
-RunsKnown (command.Run file steps journal) g W = Tells g file (λ bytes. Reads bytes W)
+RunsKnown (command.Run w) g W = Tells g w.file (λ bytes. Reads bytes W)
 RunsKnown (command.SelfRun units) g W = W ≡ generated units
-RunsKnown (command.Check workload journal) g W = ⊥
+RunsKnown (command.Check w) g W = ⊥
 RunsKnown (command.Flow file) g W = ⊥
-RunsKnown (command.Explore file end) g W = ⊥
+RunsKnown (command.Explore w) g W = ⊥
+RunsKnown command.Help g W = ⊥
+RunsKnown command.Version g W = ⊥
 
 -- the status of a run that was written whole
 abbrev pub IsOfRun : ℕ → Type 0
@@ -74,8 +78,8 @@ Decides n P = (P × (n ≡ 0)) ⊎ ((P → ⊥) × (n ≡ 1))
 
 -- if a workload and a journal are known, and no fault comes, the status says whether the journal is a run of the workload with stamps
 abbrev pub ChecksJournals : ℕ → Call → Type 0
-ChecksJournals n c = (workload journal : Text) (W : Parts) (J : List Event) → Says c.given.words (command.Check workload journal)
-    → Tells c.given workload (λ bytes. Reads bytes W) → Tells c.given journal (IsTextOf J) → IsStill c.left → Decides n (IsStampedRun W c.given.stored J) ⊎ (n ≡ 7)
+ChecksJournals n c = (w : CheckWords) (W : Parts) (J : List Event) → Says c.given.words (command.Check w)
+    → Tells c.given w.workload (λ bytes. Reads bytes W) → Tells c.given w.journal (IsTextOf J) → IsStill c.left → Decides n (IsStampedRun W c.given.stored J) ⊎ (n ≡ 7)
 
 -- if a workload is known, and no fault comes, the status says whether it is confluent and has a flow
 abbrev pub FindsFlows : ℕ → Call → Type 0
@@ -90,8 +94,8 @@ RefusesTexts n c = (command : Command) (file : Text) → Says c.given.words comm
 
 -- and so it is if a journal's bytes are observable and are not a journal's text
 abbrev pub RefusesJournals : ℕ → Call → Type 0
-RefusesJournals n c = (workload journal : Text) (W : Parts) → Says c.given.words (command.Check workload journal) → Tells c.given workload (λ bytes. Reads bytes W)
-    → Tells c.given journal (λ bytes. (J : List Event) → IsTextOf J bytes → ⊥) → (Grew c.left.read_faults → ⊥) → (n ≡ 3) ⊎ (n ≡ 7)
+RefusesJournals n c = (w : CheckWords) (W : Parts) → Says c.given.words (command.Check w) → Tells c.given w.workload (λ bytes. Reads bytes W)
+    → Tells c.given w.journal (λ bytes. (J : List Event) → IsTextOf J bytes → ⊥) → (Grew c.left.read_faults → ⊥) → (n ≡ 3) ⊎ (n ≡ 7)
 
 -- if no file has the name of the workload, which is observable, it cannot be read
 abbrev pub MissesFiles : ℕ → Call → Type 0
@@ -99,8 +103,8 @@ MissesFiles n c = (command : Command) (file : Text) → Says c.given.words comma
 
 -- nor can a journal, if no file has its name, which is observable, and the workload is known
 abbrev pub MissesJournals : ℕ → Call → Type 0
-MissesJournals n c = (workload journal : Text) (W : Parts) → Says c.given.words (command.Check workload journal) → Tells c.given workload (λ bytes. Reads bytes W)
-    → c.absent journal → (n ≡ 5) ⊎ (n ≡ 7)
+MissesJournals n c = (w : CheckWords) (W : Parts) → Says c.given.words (command.Check w) → Tells c.given w.workload (λ bytes. Reads bytes W)
+    → c.absent w.journal → (n ≡ 5) ⊎ (n ≡ 7)
 
 -- if the words are not a command, they are refused
 abbrev pub RefusesWords : ℕ → Call → Type 0
@@ -108,7 +112,7 @@ RefusesWords n c = SaysNothing c.given.words → (n ≡ 2) ⊎ (n ≡ 7)
 
 -- and so they are if they ask for more steps than the format of a file allows whose bytes are observable, and no fault of reading comes
 abbrev pub RefusesSteps : ℕ → Call → Type 0
-RefusesSteps n c = (file : Text) (asked : Option ℕ) (journal : Bool) → Says c.given.words (command.Run file asked journal) → ExceedsKnown (c.given.file file) asked
+RefusesSteps n c = (w : RunWords) → Says c.given.words (command.Run w) → ExceedsKnown (c.given.file w.file) w.steps
     → (Grew c.left.read_faults → ⊥) → (n ≡ 2) ⊎ (n ≡ 7)
 
 -- if each stream may make as many steps as the workload has operations, and none of these revives a unit, no stream uses up its steps

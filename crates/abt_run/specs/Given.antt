@@ -4,6 +4,7 @@ use Rattle.abt_machine.specs.Stored.{Stored}
 use Rattle.abt_machine.specs.declared.workload.Parts.{Parts}
 use Rattle.abt_machine.specs.Grammar.{Reads}
 use Rattle.abt_machine.specs.Words.{Text}
+use Rattle.abt_words.specs.declared.commands.CheckWords.{CheckWords}
 use Rattle.abt_words.specs.declared.commands.Command.{Command}
 use Rattle.abt_words.specs.declared.commands.Command.TheVariants as command
 use Rattle.abt_words.specs.Commands.{Says}
@@ -25,11 +26,13 @@ SaysNothing words = (c : Command) → Says words c → ⊥
 
 -- the file of the command's workload, if it names one
 abbrev pub workload_file : Command → Option Text
-workload_file (command.Run file steps journal) = Some file
+workload_file (command.Run w) = Some w.file
 workload_file (command.SelfRun units) = None
-workload_file (command.Check workload journal) = Some workload
+workload_file (command.Check w) = Some w.workload
 workload_file (command.Flow file) = Some file
-workload_file (command.Explore file end) = Some file
+workload_file (command.Explore w) = Some w.file
+workload_file command.Help = None
+workload_file command.Version = None
 
 -- the words name a file with a workload
 pub record NamesFile (words : List Text) : Type 0 where
@@ -53,8 +56,7 @@ IsReadFrom g file W = IfSome (g.file file) (λ bytes. Reads bytes W)
 
 -- the words ask to compare a workload, which is W, with a journal, of whose bytes this holds, if they are observable
 pub record Compares (g : Given) (W : Parts) (Is : Text → Type 0) : Type 0 where
-  pub workload : Text
-  pub journal : Text
-  pub says : Says g.words (command.Check workload journal)
-  pub reads : IsReadFrom g workload W
-  pub is : IfSome (g.file journal) Is
+  pub asked : CheckWords
+  pub says : Says g.words (command.Check asked)
+  pub reads : IsReadFrom g asked.workload W
+  pub is : IfSome (g.file asked.journal) Is

@@ -1,19 +1,25 @@
 -- Which runs keep their journal.
-use Rattle.std.specs.Prelude.{Bool, true, false}
+use Rattle.std.specs.Prelude.{Bool, true, false, if◌then◌else◌}
 use Rattle.abt_words.specs.declared.commands.Command.{Command}
 use Rattle.abt_words.specs.declared.commands.Command.TheVariants as command
 use Rattle.abt_run.specs.declared.keeping.Keep.{Keep}
 use Rattle.abt_run.specs.declared.keeping.Keep.TheVariants as keep
 
--- the command prints the journal of its run
-abbrev pub prints_journal : Command → Bool
-prints_journal (command.Run file steps journal) = journal
-prints_journal (command.SelfRun units) = false
-prints_journal (command.Check workload journal) = false
-prints_journal (command.Flow file) = false
-prints_journal (command.Explore file end) = false
+-- one of both
+abbrev pub either : Bool → Bool → Bool
+either a b = if a then true else b
 
--- a run keeps its journal, if it is printed, or if it is not
+-- the command prints the journal of its run, or what units wait for after it
+abbrev pub needs_journal : Command → Bool
+needs_journal (command.Run w) = either w.journal w.why
+needs_journal (command.SelfRun units) = false
+needs_journal (command.Check w) = false
+needs_journal (command.Flow file) = false
+needs_journal (command.Explore w) = false
+needs_journal command.Help = false
+needs_journal command.Version = false
+
+-- a run keeps its journal, if it is needed, or if it is not
 abbrev pub keeps : Keep → Bool → Bool
-keeps keep.Always prints = true
-keeps keep.IfPrinted prints = prints
+keeps keep.Always needs = true
+keeps keep.IfPrinted needs = needs

@@ -1,5 +1,5 @@
 -- What the command of a call prints, by what it came to.
-use Rattle.std.specs.Prelude.{◌≡◌, ◌<◌, ◌+◌, ◌^◌, ℕ, suc, ◌++◌, if◌then◌else◌, Bool, true, List, [], Option, Some, None, codes, decimal}
+use Rattle.std.specs.Prelude.{◌≡◌, ◌<◌, ◌+◌, ◌^◌, ℕ, suc, ◌++◌, ◌⊎◌, if◌then◌else◌, Bool, true, List, [], Option, Some, None, codes, decimal}
 use Rattle.abt_machine.specs.declared.events.Event.{Event}
 use Rattle.abt_machine.specs.declared.events.Outcome.{Outcome}
 use Rattle.abt_machine.specs.declared.events.Piece.{Piece}
@@ -7,55 +7,86 @@ use Rattle.abt_machine.specs.declared.workload.Parts.{Parts}
 use Rattle.abt_machine.specs.Outcomes.{steps_in}
 use Rattle.abt_machine.specs.Runs.{last_state}
 use Rattle.abt_machine.specs.State.{State}
+use Rattle.abt_machine.specs.Stored.{Stored}
 use Rattle.abt_machine.specs.Texts.{journal_text, report_text, short_text}
 use Rattle.abt_machine.specs.Words.{Text}
 use Rattle.abt_check.specs.declared.verdict.Verdict.{Verdict}
 use Rattle.abt_check.specs.declared.verdict.Verdict.TheVariants as verdict
 use Rattle.abt_check.specs.Verdicts.{IsJudged}
 use Rattle.abt_drain.specs.declared.run.Run.{Run}
+use Rattle.abt_drain.specs.Ends.{IsLeftOf}
+use Rattle.abt_drain.specs.InRotation.{IsMadeInRotation}
 use Rattle.abt_drain.specs.Runs.{HasRun}
 use Rattle.abt_flow.specs.Confluent.{Confluent}
+use Rattle.abt_flow.specs.Finishing.{IsOrderly}
 use Rattle.abt_flow.specs.Flow.{IsFlow}
 use Rattle.abt_generate.specs.Generated.{generated}
 use Rattle.abt_report.specs.Journals.{IsTextOf}
 use Rattle.abt_record.specs.Records.{IsKept}
 use Rattle.abt_report.specs.Outputs.{outputs_text}
 use Rattle.abt_report.specs.Pictures.{IsPictureOf}
+use Rattle.abt_why.specs.Texts.{why_text}
 use Rattle.abt_words.specs.declared.commands.Command.{Command}
 use Rattle.abt_words.specs.declared.commands.Command.TheVariants as command
+use Rattle.abt_words.specs.declared.commands.Schedule.{Schedule}
+use Rattle.abt_words.specs.declared.commands.Schedule.TheVariants as schedule
 use Rattle.abt_words.specs.Commands.{Says}
 use Rattle.abt_run.specs.Ends.{ShowsEnds}
 use Rattle.abt_run.specs.Given.{Compares, Given, IsReadFrom}
-use Rattle.abt_run.specs.Kept.{keeps, prints_journal}
+use Rattle.abt_run.specs.Kept.{keeps, needs_journal}
+use Rattle.abt_run.specs.Status.{help_text, version_text}
 use Rattle.abt_run.specs.Steps.{MayMake}
 use Rattle.abt_run.specs.declared.keeping.Keep.{Keep}
 use Rattle.abt_run.specs.declared.status.Conclusion.{Conclusion}
-use Rattle.abt_run.specs.declared.status.Conclusion.TheVariants.{Ended, Judged, Flows, NotConfluent, Undefined, Finishes, Sticks, GoesOn, Unexplored}
+use Rattle.abt_run.specs.declared.status.Conclusion.TheVariants.{Ended, Judged, Flows, NotConfluent, Undefined, Finishes, Sticks, GoesOn, Unexplored, Helps, NamesVersion}
 
 -- Runs.
 
 -- the command runs W: it is read from its file, or made of the number of units
 abbrev pub IsFor : Command → Given → Parts → Type 0
-IsFor (command.Run file steps journal) g W = IsReadFrom g file W
+IsFor (command.Run w) g W = IsReadFrom g w.file W
 IsFor (command.SelfRun units) g W = W ≡ generated units
-IsFor (command.Check workload journal) g W = ⊥
+IsFor (command.Check w) g W = ⊥
 IsFor (command.Flow file) g W = ⊥
-IsFor (command.Explore file end) g W = ⊥
+IsFor (command.Explore w) g W = ⊥
+IsFor command.Help g W = ⊥
+IsFor command.Version g W = ⊥
 
--- what a command prints of a run of W, by its last state, its journal and its outcome: the journal if it is asked for and the report, or
--- the short report
+-- the streams took turns as the schedule says
+abbrev pub TakesTurns : Schedule → Parts → Stored → ℕ → List Event → Type 0
+TakesTurns schedule.Threads W Z n J = Unit {0}
+TakesTurns schedule.InTurn W Z n J = IsMadeInRotation W Z n J
+
+-- what a run leaves is of one journal whose streams took turns so
+abbrev pub LeavesScheduled : Schedule → Parts → Stored → ℕ → Bool → Run → Type 0
+LeavesScheduled s W Z n keeps left = IsLeftOf W keeps (λ J. HasRun W Z n J left.outcome × TakesTurns s W Z n J) left
+
+-- the streams of a command took turns as its words say
+abbrev pub IsScheduled : Command → Parts → Stored → ℕ → List Event → Type 0
+IsScheduled (command.Run w) W Z n J = TakesTurns w.schedule W Z n J
+IsScheduled (command.SelfRun units) W Z n J = Unit {0}
+IsScheduled (command.Check w) W Z n J = Unit {0}
+IsScheduled (command.Flow file) W Z n J = Unit {0}
+IsScheduled (command.Explore w) W Z n J = Unit {0}
+IsScheduled command.Help W Z n J = Unit {0}
+IsScheduled command.Version W Z n J = Unit {0}
+
+-- what a command prints of a run of W, by its last state, its journal and its outcome: the journal, if it is asked for, the report, and
+-- what units wait for, if that is asked for; or the short report
 abbrev pub output_text : Parts → State → List Event → Outcome → Command → Text
-output_text W S J o (command.Run file steps journal) = (if journal then journal_text J else []) ++ report_text W S (steps_in J) o
+output_text W S J o (command.Run w) = ((if w.journal then journal_text J else []) ++ report_text W S (steps_in J) o) ++ (if w.why then why_text W S else [])
 output_text W S J o (command.SelfRun units) = short_text W S (steps_in J) o
-output_text W S J o (command.Check workload journal) = []
+output_text W S J o (command.Check w) = []
 output_text W S J o (command.Flow file) = []
-output_text W S J o (command.Explore file end) = []
+output_text W S J o (command.Explore w) = []
+output_text W S J o command.Help = []
+output_text W S J o command.Version = []
 
--- J is the journal of a run that left this, which has it if it is to be printed
-pub record IsShownIn (W : Parts) (prints : Bool) (J : List Event) (left : Run) : Type 0 where
+-- J is the journal of a run that left this, which has it if it is needed
+pub record IsShownIn (W : Parts) (needs : Bool) (J : List Event) (left : Run) : Type 0 where
   pub picture : IsPictureOf W J left.picture
   pub steps : left.steps ≡ steps_in J
-  pub journal : prints ≡ true → left.journal ≡ Some J
+  pub journal : needs ≡ true → left.journal ≡ Some J
 
 -- the journal is a run of the workload of the words' command, ended so, the text is its output, and the answer has it, if it is kept
 pub record Ran (g : Given) (keep : Keep) (answered : Option (List Event)) (o : Outcome) (text : Text) : Type 0 where
@@ -67,8 +98,9 @@ pub record Ran (g : Given) (keep : Keep) (answered : Option (List Event)) (o : O
   pub may : MayMake command g steps
   pub journal : List Event
   pub run : HasRun workload g.stored steps journal o
+  pub scheduled : IsScheduled command workload g.stored steps journal
   pub output : text ≡ output_text workload (last_state workload journal) journal o command
-  pub kept : IsKept (keeps keep (prints_journal command)) journal answered
+  pub kept : IsKept (keeps keep (needs_journal command)) journal answered
 
 -- Verdicts.
 
@@ -96,6 +128,10 @@ pub record AsksFlow (g : Given) (W : Parts) : Type 0 where
   pub says : Says g.words (command.Flow file)
   pub reads : IsReadFrom g file W
 
+-- the text is that of these outputs, and has a last line if each run of the workload finishes
+abbrev pub ShowsFlow : Parts → List (List Piece) → Text → Type 0
+ShowsFlow W rows text = (IsOrderly W × (text ≡ outputs_text W rows ++ codes "finishes\n")) ⊎ ((IsOrderly W → ⊥) × (text ≡ outputs_text W rows))
+
 -- the text is that of the flow
 pub record HasFlow (g : Given) (text : Text) : Type 0 where
   pub workload : Parts
@@ -103,7 +139,7 @@ pub record HasFlow (g : Given) (text : Text) : Type 0 where
   pub confluent : Confluent workload
   pub rows : List (List Piece)
   pub flow : IsFlow workload g.stored.returns rows
-  pub output : text ≡ outputs_text workload rows
+  pub output : ShowsFlow workload rows text
 
 pub record IsNotConfluent (g : Given) : Type 0 where
   pub workload : Parts
@@ -130,3 +166,5 @@ Prints g keep Finishes answered text = ShowsEnds g Finishes text × (answered �
 Prints g keep Sticks answered text = ShowsEnds g Sticks text × (answered ≡ None)
 Prints g keep GoesOn answered text = ShowsEnds g GoesOn text × (answered ≡ None)
 Prints g keep Unexplored answered text = ShowsEnds g Unexplored text × (answered ≡ None)
+Prints g keep Helps answered text = Says g.words command.Help × (text ≡ help_text) × (answered ≡ None)
+Prints g keep NamesVersion answered text = Says g.words command.Version × (text ≡ version_text) × (answered ≡ None)

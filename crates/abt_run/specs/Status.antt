@@ -4,10 +4,17 @@ use Rattle.abt_machine.specs.Words.{Text}
 use Rattle.abt_check.specs.declared.verdict.Verdict.TheVariants as verdict
 use Rattle.abt_shell.specs.Status.{number_of_outcome}
 use Rattle.abt_run.specs.declared.status.Conclusion.{Conclusion}
-use Rattle.abt_run.specs.declared.status.Conclusion.TheVariants.{Ended, Judged, Flows, NotConfluent, Undefined, Finishes, Sticks, GoesOn, Unexplored}
+use Rattle.abt_run.specs.declared.status.Conclusion.TheVariants.{Ended, Judged, Flows, NotConfluent, Undefined, Finishes, Sticks, GoesOn, Unexplored, Helps, NamesVersion}
 
 abbrev pub name : Text
 name = codes "abtrun"
+
+-- what it prints of its words, and of its version
+abbrev pub help_text : Text
+help_text = codes "abtrun run FILE [--steps V] [--journal] [--why] [--in-turn]\nabtrun self N\nabtrun check WORKLOAD JOURNAL\nabtrun flow FILE\nabtrun explore FILE [--states M] [--end K [--journal]]\nabtrun --help\nabtrun --version\n"
+
+abbrev pub version_text : Text
+version_text = codes "abtrun 1\n"
 
 -- if all that the command prints was written
 abbrev pub number_of_conclusion : Conclusion → ℕ
@@ -21,3 +28,5 @@ number_of_conclusion Finishes = 0
 number_of_conclusion Sticks = 1
 number_of_conclusion GoesOn = 4
 number_of_conclusion Unexplored = 8
+number_of_conclusion Helps = 0
+number_of_conclusion NamesVersion = 0

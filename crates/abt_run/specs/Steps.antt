@@ -1,5 +1,5 @@
 -- How many steps each stream may make, by the words of a call and the format of the file that they name.
-use Rattle.std.specs.Prelude.{ℕ, suc, ◌≡◌, ⊤, Bool, Option, Some, IfSome, take}
+use Rattle.std.specs.Prelude.{ℕ, suc, ◌≡◌, ⊤, Option, Some, IfSome, take}
 use Rattle.abt_machine.specs.declared.grammar.Format.{Format}
 use Rattle.abt_machine.specs.declared.grammar.Format.TheVariants as format
 use Rattle.abt_machine.specs.Grammar.{format_of}
@@ -10,6 +10,7 @@ use Rattle.abt_shell.specs.Fetched.{StopsFor}
 use Rattle.abt_shell.specs.declared.status.Stop.{Stop}
 use Rattle.abt_words.specs.declared.commands.Command.{Command}
 use Rattle.abt_words.specs.declared.commands.Command.TheVariants as command
+use Rattle.abt_words.specs.declared.commands.RunWords.{RunWords}
 use Rattle.abt_words.specs.Commands.{Says}
 use Rattle.abt_words.specs.Steps.{AsksTooMany, LetsMake}
 use Rattle.abt_run.specs.Given.{Given}
@@ -47,16 +48,16 @@ StopsAtNoLine = StopsFor ⊤ ⊤ (λ line w. ⊥)
 
 -- the command lets each stream make n steps
 abbrev pub MayMake : Command → Given → ℕ → Type 0
-MayMake (command.Run file asked journal) g n = LetsStreams (g.file file) asked n
+MayMake (command.Run w) g n = LetsStreams (g.file w.file) w.steps n
 MayMake (command.SelfRun units) g n = n ≡ default_steps
-MayMake (command.Check workload journal) g n = ⊥
+MayMake (command.Check w) g n = ⊥
 MayMake (command.Flow file) g n = ⊥
-MayMake (command.Explore file end) g n = ⊥
+MayMake (command.Explore w) g n = ⊥
+MayMake command.Help g n = ⊥
+MayMake command.Version g n = ⊥
 
 -- the words ask for more steps than the format of the file that they name allows
 pub record AsksBeyond (g : Given) : Type 0 where
-  pub file : Text
-  pub asked : Option ℕ
-  pub journal : Bool
-  pub says : Says g.words (command.Run file asked journal)
-  pub exceeds : Exceeds (g.file file) asked
+  pub asked : RunWords
+  pub says : Says g.words (command.Run asked)
+  pub exceeds : Exceeds (g.file asked.file) asked.steps

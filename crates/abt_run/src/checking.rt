@@ -37,9 +37,9 @@ pub(crate) fn prepare_check<F: Files, P: Work>(
 ) -> Result<Prepared, Stop>
     requires orders { 2 ≤ length orders.now }
     requires calls { function_limit ≤ P.count work.now }
-    ensures done { (keep : Keep) (words : List Text) → Says words (command.Check workload.now journal.now)
+    ensures done { (keep : Keep) (words : List Text) → Says words (command.Check (record { workload = workload.now; journal = journal.now }))
         → IfOk result (λ p. Prints (given words (stored_of orders.now (P.returns work.now)) (λ name. F.file files.old name)) keep p.conclusion p.journal p.text.items) }
-    ensures stop { (words : List Text) → Says words (command.Check workload.now journal.now)
+    ensures stop { (words : List Text) → Says words (command.Check (record { workload = workload.now; journal = journal.now }))
         → IfErr result (StopsCommand (given words (stored_of orders.now (P.returns work.now)) (λ name. F.file files.old name)) (F.faults files.old, F.faults files.new)) }
     ensures absent { F.absent files.old workload.now → IsErrOf result CannotRead }
     ensures missing { F.absent files.old journal.now → IsErrAnd result (LacksSecond (F.file files.old workload.now) (F.faults files.old, F.faults files.new)) }

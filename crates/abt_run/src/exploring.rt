@@ -8,7 +8,7 @@ ghost use Rattle.abt_machine.specs.Words.{Text, ended, line_of};
 ghost use Rattle.abt_order.specs.Stored.{stored_of};
 ghost use Rattle.abt_words.specs.Commands.{Says};
 ghost use Rattle.abt_words.specs.declared.commands.Command.TheVariants as command;
-ghost use Rattle.abt_run.specs.Ends.{FoundSays, any_word_text, changing_text, conclusion_on, concluded, end_at, ends_shown, is_stuck, shown_of};
+ghost use Rattle.abt_run.specs.Ends.{FoundSays, any_word_text, changing_text, conclusion_on, concluded, end_at, end_shown, ends_shown, is_stuck, shown_of};
 ghost use Rattle.abt_run.specs.Given.{given};
 ghost use Rattle.abt_run.specs.declared.keeping.Keep.{Keep};
 ghost use Rattle.abt_run.specs.Prepared.{StopsCommand};
@@ -22,27 +22,31 @@ use abt_explore::{End, Exploration, explore, explored_text, first_changing, show
 use abt_lines::{end_line, push_decimal, push_number};
 use abt_machine::{Outcome, SchedNo, Want, Workload};
 use abt_order::StoredOrder;
+use abt_report::{append_report, count_steps};
 use abt_shell::Stop;
 use abt_source::Files;
 use abt_words::MOST_STATES;
 use abt_work::Work;
 use std::alloc::Global;
 
-/// The ends of a file's workload, or the one of this number, counted from 1.
+/// The ends of a file's workload, found in at most this many states; or the one of this number, counted from 1, and the journal that
+/// leads to it, if that is asked for.
 #[tactic(auto, using(crate::proofs::Storing::stores_calls))]
 pub(crate) fn prepare_explore<F: Files, P: Work>(
     alloc: Global,
     file: &str,
+    states: Option<u64>,
     asked: Option<u64>,
+    with_journal: bool,
     files: &mut F,
     work: &P,
     orders: &[StoredOrder],
 ) -> Result<Prepared, Stop>
     requires orders { 2 ≤ length orders.now }
     requires calls { function_limit ≤ P.count work.now }
-    ensures done { (keep : Keep) (words : List Text) → Says words (command.Explore file.now asked)
+    ensures done { (keep : Keep) (words : List Text) → Says words (command.Explore (record { file = file.now; states = states; end = asked; journal = with_journal }))
         → IfOk result (λ p. Prints (given words (stored_of orders.now (P.returns work.now)) (λ name. F.file files.old name)) keep p.conclusion p.journal p.text.items) }
-    ensures stop { (words : List Text) → Says words (command.Explore file.now asked)
+    ensures stop { (words : List Text) → Says words (command.Explore (record { file = file.now; states = states; end = asked; journal = with_journal }))
         → IfErr result (StopsCommand (given words (stored_of orders.now (P.returns work.now)) (λ name. F.file files.old name)) (F.faults files.old, F.faults files.new)) }
     ensures absent { F.absent files.old file.now → IsErrOf result CannotRead }
     ensures faulty { F.faults files.new ≢ F.faults files.old → IsErrOf result CannotRead }
@@ -54,8 +58,9 @@ pub(crate) fn prepare_explore<F: Files, P: Work>(
         return Ok(without_run(text, Conclusion::Unexplored));
     }
     w.known();
-    let found = explore(alloc, &w, orders, work, MOST_STATES)?;
-    let (conclusion, text) = shown(alloc, &w, asked, &found)?;
+    let most = states.unwrap_or(MOST_STATES);
+    let found = explore(alloc, &w, orders, work, most)?;
+    let (conclusion, text) = shown(alloc, &w, asked, with_journal, &found)?;
     Ok(without_run(text, conclusion))
 }
 
@@ -74,16 +79,18 @@ fn shown(
     alloc: Global,
     w: &Workload,
     asked: Option<u64>,
+    with_journal: bool,
     found: &Exploration,
 ) -> Result<(Conclusion, Vec<u8>), Want>
     requires words { FoundSays w.now found.now }
-    ensures { IfOk result (λ shown. (shown.0, shown.1.items) ≡ shown_of w.now asked found.now) }
+    ensures { IfOk result (λ shown. (shown.0, shown.1.items) ≡ shown_of w.now asked with_journal found.now) }
 {
     match found {
         Exploration::Whole { states, ends } => shown_ends(
             alloc,
             w,
             asked,
+            with_journal,
             *states,
             ends.as_slice(),
         ),
@@ -113,11 +120,12 @@ fn shown_ends(
     alloc: Global,
     w: &Workload,
     asked: Option<u64>,
+    with_journal: bool,
     states: u64,
     ends: &[End],
 ) -> Result<(Conclusion, Vec<u8>), Want>
     requires words { All (SaysWords w.now) ends.now }
-    ensures { IfOk result (λ shown. (shown.0, shown.1.items) ≡ ends_shown w.now asked states ends.now) }
+    ensures { IfOk result (λ shown. (shown.0, shown.1.items) ≡ ends_shown w.now asked with_journal states ends.now) }
 {
     let Some(number) = asked else {
         let text = explored_text(alloc, w, states, ends)?;
@@ -125,7 +133,7 @@ fn shown_ends(
     };
     match end_of(ends, number) {
         Some(end) => {
-            let text = shown_text(alloc, w, end)?;
+            let text = end_text(alloc, w, with_journal, end)?;
             Ok((concluded(is_stuck(end.outcome)), text))
         }
         None => {
@@ -133,6 +141,20 @@ fn shown_ends(
             Ok((Conclusion::Unexplored, text))
         }
     }
+}
+
+// What is printed of one end.
+fn end_text(alloc: Global, w: &Workload, with_journal: bool, end: &End) -> Result<Vec<u8>, Want>
+    requires words { SaysWords w.now end.now }
+    ensures { IfOk result (λ text. text.items ≡ end_shown w.now with_journal end.now) }
+{
+    if with_journal {
+        return shown_text(alloc, w, end);
+    }
+    let mut text = Vec::new(alloc);
+    let steps = count_steps(end.journal.items());
+    append_report(&mut text, w, &end.picture, end.outcome, steps)?;
+    Ok(text)
 }
 
 // The end of this number, counted from 1, if there is one.

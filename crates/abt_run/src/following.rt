@@ -1,7 +1,9 @@
 //! The command `flow`.
 
-ghost use Rattle.std.specs.Prelude.{◌≡◌, ◌≢◌, ◌≤◌, IfErr, IfOk, IsErrOf, List};
+ghost use Rattle.std.specs.Prelude.{◌≡◌, ◌≢◌, ◌≤◌, All, IfErr, IfOk, IsErrOf, List};
+ghost use Rattle.abt_flow.specs.Confluent.{Confluent};
 ghost use Rattle.abt_machine.specs.Limits.{function_limit};
+ghost use Rattle.abt_machine.specs.Pieces.{IsPieceOf};
 ghost use Rattle.abt_machine.specs.Stored.{Stored};
 ghost use Rattle.abt_machine.specs.Words.{Text};
 ghost use Rattle.abt_words.specs.Commands.{Says};
@@ -9,13 +11,15 @@ ghost use Rattle.abt_words.specs.declared.commands.Command.TheVariants as comman
 ghost use Rattle.abt_run.specs.Given.{given};
 ghost use Rattle.abt_run.specs.declared.keeping.Keep.{Keep};
 ghost use Rattle.abt_run.specs.Prepared.{StopsCommand};
-ghost use Rattle.abt_run.specs.Printed.{Prints};
+ghost use Rattle.abt_run.specs.Printed.{Prints, ShowsFlow};
 ghost use Rattle.abt_shell.specs.declared.status.Stop.TheVariants.{CannotRead};
 
 use crate::fetching::fetch;
 use crate::prepared::{Prepared, without_run};
 use crate::status::Conclusion;
-use abt_flow::{confluent, find_flow};
+use abt_flow::{Flow, confluent, find_flow};
+use abt_machine::{Want, Workload};
+use abt_orderly::is_orderly;
 use abt_report::outputs_text;
 use abt_shell::Stop;
 use abt_source::Files;
@@ -47,7 +51,7 @@ pub(crate) fn prepare_flow<F: Files, P: Work>(
     w.known();
     match find_flow(alloc, &w, work)? {
         Some(flow) => {
-            let text = outputs_text(alloc, &w, flow.items())?;
+            let text = flow_text(alloc, &w, &flow)?;
             Ok(without_run(text, Conclusion::Flows))
         }
         None => {
@@ -55,4 +59,17 @@ pub(crate) fn prepare_flow<F: Files, P: Work>(
             Ok(without_run(text, Conclusion::Undefined))
         }
     }
+}
+
+// The outputs of a flow, and a last line if each run of the workload finishes.
+fn flow_text(alloc: Global, w: &Workload, flow: &Flow) -> Result<Vec<u8>, Want>
+    requires confluent { Confluent w.now }
+    requires words { All (All (IsPieceOf w.now)) flow.now }
+    ensures { IfOk result (λ text. ShowsFlow w.now flow.now text.items) }
+{
+    let mut text = outputs_text(alloc, w, flow.items())?;
+    if is_orderly(alloc, w)? {
+        text.extend_from_slice(b"finishes\n")?;
+    }
+    Ok(text)
 }

@@ -2,6 +2,7 @@
 #![tactic(auto)]
 
 mod checking;
+mod explaining;
 mod exploring;
 mod fetching;
 mod following;

@@ -1,12 +1,14 @@
 //! The top call.
 
-ghost use Rattle.std.specs.Prelude.{◌≡◌, ◌≢◌, ◌≤◌, ◌⊎◌, ℕ, Bool, Option, IfErr, IfOk, IsErrAnd, IsErrOf, Some, length, map, string_bytes};
+ghost use Rattle.std.specs.Prelude.{◌≡◌, ◌≢◌, ◌≤◌, ◌⊎◌, IfErr, IfOk, IsErrAnd, IsErrOf, Some, length, map, string_bytes};
 ghost use Rattle.abt_machine.specs.Limits.{function_limit};
 ghost use Rattle.abt_machine.specs.Words.{Text};
 ghost use Rattle.abt_order.specs.Stored.{stored_of};
 ghost use Rattle.abt_words.specs.Commands.{Says};
+ghost use Rattle.abt_words.specs.declared.commands.CheckWords.{CheckWords};
 ghost use Rattle.abt_words.specs.declared.commands.Command.{Command};
 ghost use Rattle.abt_words.specs.declared.commands.Command.TheVariants.{Check, Run};
+ghost use Rattle.abt_words.specs.declared.commands.RunWords.{RunWords};
 ghost use Rattle.abt_run.specs.Call.{IsAnswered};
 ghost use Rattle.abt_run.specs.Given.{given, workload_file};
 ghost use Rattle.abt_run.specs.Prepared.{LacksSecond, StopsCommand};
@@ -16,6 +18,7 @@ ghost use Rattle.abt_shell.specs.Calls.{left};
 ghost use Rattle.abt_shell.specs.declared.status.Stop.TheVariants.{CannotRead, OutOfMemory};
 
 use crate::checking::prepare_check;
+use crate::explaining::{prepare_help, prepare_version};
 use crate::exploring::prepare_explore;
 use crate::following::prepare_flow;
 use crate::keeping::Keep;
@@ -55,27 +58,23 @@ fn prepare<R: Threads + Wait + Sync, F: Files, P: Work + Sync>(
     ensures stop { IfErr result (StopsCommand (given (map string_bytes words.now) (stored_of orders.now (P.returns work.now)) (λ name. F.file files.old name)) (F.faults files.old, F.faults files.new)) }
     ensures absent { (command : Command) (file : Text) → Says (map string_bytes words.now) command → workload_file command ≡ Some file → F.absent files.old file
         → IsErrOf result CannotRead ⊎ IsErrOf result OutOfMemory }
-    ensures missing { (workload journal : Text) → Says (map string_bytes words.now) (Check workload journal) → F.absent files.old journal
-        → IsErrAnd result (LacksSecond (F.file files.old workload) (F.faults files.old, F.faults files.new)) }
-    ensures exceeds { (file : Text) (asked : Option ℕ) (journal : Bool) → Says (map string_bytes words.now) (Run file asked journal) → ExceedsKnown (F.file files.old file) asked
+    ensures missing { (w : CheckWords) → Says (map string_bytes words.now) (Check w) → F.absent files.old w.journal
+        → IsErrAnd result (LacksSecond (F.file files.old w.workload) (F.faults files.old, F.faults files.new)) }
+    ensures exceeds { (w : RunWords) → Says (map string_bytes words.now) (Run w) → ExceedsKnown (F.file files.old w.file) w.steps
         → IsErrAnd result (StopsAtNoLine (F.faults files.old, F.faults files.new)) }
     ensures faulty { F.faults files.new ≢ F.faults files.old → IsErrOf result CannotRead }
     ensures later { F.faults files.old ≤ F.faults files.new }
 {
     match command(alloc, words) {
-        Ok(
-            Command::Run {
-                file,
-                steps,
-                journal,
-            },
-        ) => {
+        Ok(Command::Run(asked)) => {
             prepare_file(
                 rt,
                 alloc,
-                file.as_str(),
-                steps,
-                journal,
+                asked.file.as_str(),
+                asked.steps,
+                asked.journal,
+                asked.why,
+                asked.schedule,
                 files,
                 work,
                 orders,
@@ -83,33 +82,46 @@ fn prepare<R: Threads + Wait + Sync, F: Files, P: Work + Sync>(
             )
         }
         Ok(Command::SelfRun { units }) => prepare_self(rt, alloc, units, work, orders, keep),
-        Ok(Command::Check { workload, journal }) => {
+        Ok(Command::Check(asked)) => {
             prepare_check(
                 alloc,
-                workload.as_str(),
-                journal.as_str(),
+                asked.workload.as_str(),
+                asked.journal.as_str(),
                 files,
                 work,
                 orders,
             )
         }
         Ok(Command::Flow { file }) => prepare_flow(alloc, file.as_str(), files, work),
-        Ok(Command::Explore { file, end }) => {
-            prepare_explore(alloc, file.as_str(), end, files, work, orders)
+        Ok(Command::Explore(asked)) => {
+            prepare_explore(
+                alloc,
+                asked.file.as_str(),
+                asked.states,
+                asked.end,
+                asked.journal,
+                files,
+                work,
+                orders,
+            )
         }
+        Ok(Command::Help) => prepare_help(alloc),
+        Ok(Command::Version) => prepare_version(alloc),
         Err(WordFault::Bad) => Err(Stop::BadWords),
         Err(WordFault::Memory) => Err(Stop::OutOfMemory),
     }
 }
 
-/// What the command of the program does. `run` reads the file and the workload in it, runs the workload, and writes the run's
-/// journal, if `--journal` asks for it, and its report; `self` runs the workload that it makes of a number, and writes the
-/// short report; `check` reads a workload and a journal, and writes whether that is a run of it with stamps, or otherwise its first line
-/// at which it is not one; `flow` writes what each unit of a workload puts out, if that does not depend on the schedule; `explore` writes
-/// each way in which a workload can end, or one of them with a journal that leads to it. The words are those after the program's name. User schedulers name the stored orders by number.
+/// What the command of the program does. `run` reads the file and the workload in it, runs the workload, and writes the run's journal, if
+/// `--journal` asks for it, its report, and what units wait for, if `--why` asks for that; `self` runs the workload that it makes of a
+/// number, and writes the short report; `check` reads a workload and a journal, and writes whether that is a run of it with stamps, or
+/// otherwise its first line at which it is not one; `flow` writes what each unit of a workload puts out, if that does not depend on the
+/// schedule, and whether each run finishes; `explore` writes each way in which a workload can end, or one of them, and a journal that leads
+/// to it, if `--journal` asks for it; `--help` and `--version` write what the program says of itself. The words are those after the
+/// program's name. User schedulers name the stored orders by number.
 ///
-/// Each stream runs on a thread of its own, as far as threads can be started; `work` is called before each step and has the
-/// functions that units call, all outside every lock.
+/// Each stream runs on a thread of its own, as far as threads can be started, or with `--in-turn` all on the caller's in rotation;
+/// `work` is called before each step and has the functions that units call, all outside every lock.
 ///
 /// Exit statuses: 0 finished, 1 stuck, 2 bad command line, also if it asks for more steps than the format of the file allows, 3 a file
 /// is refused, 4 a stream made all the steps that it may make, 5 cannot read, 6 cannot write, 7 out of memory; `check` ends with 0 if

@@ -31,6 +31,10 @@ pub enum Conclusion {
     GoesOn,
     /// A workload was not searched whole, or has no end of the number that was asked for.
     Unexplored,
+    /// The program's words were asked for.
+    Helps,
+    /// The program's version was asked for.
+    NamesVersion,
 }
 
 impl Conclusion {
@@ -47,6 +51,7 @@ impl Conclusion {
             Conclusion::Sticks => 1,
             Conclusion::GoesOn => 4,
             Conclusion::Unexplored => 8,
+            Conclusion::Helps | Conclusion::NamesVersion => 0,
         }
     }
 }

@@ -1,61 +1,113 @@
 //! Lists of words, with the command that they say, if they say one.
 
 use abt_machine::Format;
-use abt_words::{Command, WordFault, allowed_steps, default_steps, words};
+use abt_words::{Command, Schedule, WordFault, allowed_steps, default_steps, words};
 use std::alloc::{AllocError, Global};
 use std::test::Fail;
 
-// A command: to run a file, with the steps of each stream, if they are asked for, and whether the journal is wanted; to run what is
-// made of so many units; to check the journal of the second file against the workload of the first; to ask for the flow of a file; and to
-// ask for its ends, or for the end of a number.
+// A command: to run a file, with the steps of each stream, if they are asked for, whether the journal is wanted, and how streams take
+// turns; to run it and say what units wait for; to run what is made of so many units; to check the journal of the second file against the workload of the first; to ask for the
+// flow of a file; to ask for its ends, in so many states, or for the end of a number, and whether its journal is wanted; and to ask for the
+// words and the version.
 #[derive(Clone, Copy)]
 enum Wanted {
-    Run(&'static str, Option<u64>, bool),
+    Run(&'static str, Option<u64>, bool, Schedule),
+    Why(&'static str),
     SelfRun(u32),
     Check(&'static str, &'static str),
     Flow(&'static str),
-    Explore(&'static str, Option<u64>),
+    Explore(&'static str, Option<u64>, Option<u64>, bool),
+    Help,
+    Version,
 }
 
 // Words with a comma between each two, and the command that they say.
-static SAID: [(&str, Wanted); 41] = [
-    ("run,f", Wanted::Run("f", None, false)),
-    ("run,run", Wanted::Run("run", None, false)),
-    ("run,-", Wanted::Run("-", None, false)),
-    ("run,f,--journal", Wanted::Run("f", None, true)),
-    ("run,--journal,f", Wanted::Run("f", None, true)),
-    ("run,f,--steps,5", Wanted::Run("f", Some(5), false)),
-    ("run,--steps,5,f", Wanted::Run("f", Some(5), false)),
-    ("run,f,--steps=5", Wanted::Run("f", Some(5), false)),
-    ("run,--steps=5,--journal,f", Wanted::Run("f", Some(5), true)),
-    ("run,--journal,f,--steps,5", Wanted::Run("f", Some(5), true)),
-    ("run,f,--steps,1", Wanted::Run("f", Some(1), false)),
+static SAID: [(&str, Wanted); 46] = [
+    ("run,f", Wanted::Run("f", None, false, Schedule::Threads)),
+    (
+        "run,run",
+        Wanted::Run("run", None, false, Schedule::Threads),
+    ),
+    ("run,-", Wanted::Run("-", None, false, Schedule::Threads)),
+    (
+        "run,f,--journal",
+        Wanted::Run("f", None, true, Schedule::Threads),
+    ),
+    (
+        "run,--journal,f",
+        Wanted::Run("f", None, true, Schedule::Threads),
+    ),
+    (
+        "run,f,--steps,5",
+        Wanted::Run("f", Some(5), false, Schedule::Threads),
+    ),
+    (
+        "run,--steps,5,f",
+        Wanted::Run("f", Some(5), false, Schedule::Threads),
+    ),
+    (
+        "run,f,--steps=5",
+        Wanted::Run("f", Some(5), false, Schedule::Threads),
+    ),
+    (
+        "run,--steps=5,--journal,f",
+        Wanted::Run("f", Some(5), true, Schedule::Threads),
+    ),
+    (
+        "run,--journal,f,--steps,5",
+        Wanted::Run("f", Some(5), true, Schedule::Threads),
+    ),
+    (
+        "run,f,--steps,1",
+        Wanted::Run("f", Some(1), false, Schedule::Threads),
+    ),
     (
         "run,f,--steps,100000",
-        Wanted::Run("f", Some(100_000), false),
+        Wanted::Run("f", Some(100_000), false, Schedule::Threads),
     ),
     (
         "run,f,--steps,100001",
-        Wanted::Run("f", Some(100_001), false),
+        Wanted::Run("f", Some(100_001), false, Schedule::Threads),
     ),
     (
         "run,f,--steps,16777216",
-        Wanted::Run("f", Some(16_777_216), false),
+        Wanted::Run("f", Some(16_777_216), false, Schedule::Threads),
     ),
     (
         "run,f,--steps,000000000000000000000000000007",
-        Wanted::Run("f", Some(7), false),
+        Wanted::Run("f", Some(7), false, Schedule::Threads),
     ),
-    ("run,--,f", Wanted::Run("f", None, false)),
-    ("run,--,-x", Wanted::Run("-x", None, false)),
+    ("run,--,f", Wanted::Run("f", None, false, Schedule::Threads)),
+    (
+        "run,--,-x",
+        Wanted::Run("-x", None, false, Schedule::Threads),
+    ),
     (
         "run,--journal,--,--steps",
-        Wanted::Run("--steps", None, true),
+        Wanted::Run("--steps", None, true, Schedule::Threads),
     ),
-    ("run,--,--", Wanted::Run("--", None, false)),
-    ("run,f,--", Wanted::Run("f", None, false)),
-    ("run,f,--steps,7,--", Wanted::Run("f", Some(7), false)),
-    ("run,a b=c", Wanted::Run("a b=c", None, false)),
+    (
+        "run,--,--",
+        Wanted::Run("--", None, false, Schedule::Threads),
+    ),
+    ("run,f,--", Wanted::Run("f", None, false, Schedule::Threads)),
+    (
+        "run,f,--steps,7,--",
+        Wanted::Run("f", Some(7), false, Schedule::Threads),
+    ),
+    (
+        "run,a b=c",
+        Wanted::Run("a b=c", None, false, Schedule::Threads),
+    ),
+    (
+        "run,f,--in-turn",
+        Wanted::Run("f", None, false, Schedule::InTurn),
+    ),
+    (
+        "run,--in-turn,--steps,5,f,--journal",
+        Wanted::Run("f", Some(5), true, Schedule::InTurn),
+    ),
+    ("run,--why,f", Wanted::Why("f")),
     ("self,1", Wanted::SelfRun(1)),
     ("self,126", Wanted::SelfRun(126)),
     ("self,007", Wanted::SelfRun(7)),
@@ -69,23 +121,41 @@ static SAID: [(&str, Wanted); 41] = [
     ("flow,f", Wanted::Flow("f")),
     ("flow,-", Wanted::Flow("-")),
     ("flow,--,--", Wanted::Flow("--")),
-    ("explore,f", Wanted::Explore("f", None)),
-    ("explore,-", Wanted::Explore("-", None)),
-    ("explore,f,3", Wanted::Explore("f", Some(3))),
-    ("explore,f,003", Wanted::Explore("f", Some(3))),
-    ("explore,f,1000000", Wanted::Explore("f", Some(1_000_000))),
-    ("explore,--,-f,1", Wanted::Explore("-f", Some(1))),
+    ("explore,f", Wanted::Explore("f", None, None, false)),
+    ("explore,-", Wanted::Explore("-", None, None, false)),
+    (
+        "explore,f,--end,3",
+        Wanted::Explore("f", None, Some(3), false),
+    ),
+    (
+        "explore,--end=003,f,--journal",
+        Wanted::Explore("f", None, Some(3), true),
+    ),
+    (
+        "explore,f,--states,1000000",
+        Wanted::Explore("f", Some(1_000_000), None, false),
+    ),
+    (
+        "explore,--states=1,--end,1000000,--,-f",
+        Wanted::Explore("-f", Some(1), Some(1_000_000), false),
+    ),
+    ("--help", Wanted::Help),
+    ("--version", Wanted::Version),
 ];
 
 // Words that spell nothing.
-static REFUSED: [&str; 82] = [
+static REFUSED: [&str; 102] = [
     "",
     "walk",
     "Run,f",
     "f,run",
     "--,run,f",
     "--journal,run,f",
-    "--help",
+    "--help,f",
+    "--version,--help",
+    "--help,--",
+    "help",
+    "-h",
     "run",
     "run,",
     "run,f,",
@@ -127,6 +197,13 @@ static REFUSED: [&str; 82] = [
     "run,--",
     "run,--,f,--journal",
     "run,--,",
+    "run,f,--why,--why",
+    "run,f,--why=1",
+    "run,f,--in-turn,--in-turn",
+    "run,f,--in-turn=1",
+    "run,f,--in-turns",
+    "run,f,--end,1",
+    "run,f,--states,5",
     "self",
     "self,0",
     "self,127",
@@ -154,13 +231,22 @@ static REFUSED: [&str; 82] = [
     "flow,f,--steps,5",
     "explore",
     "explore,",
-    "explore,,1",
-    "explore,f,0",
-    "explore,f,1000001",
-    "explore,f,+1",
-    "explore,f,x",
-    "explore,f,1,2",
+    "explore,f,1",
+    "explore,f,g",
+    "explore,f,--end",
+    "explore,f,--end,0",
+    "explore,f,--end,1000001",
+    "explore,f,--end,+1",
+    "explore,f,--end,x",
+    "explore,f,--end,1,--end,1",
+    "explore,f,--end,1,2",
+    "explore,f,--states,0",
+    "explore,f,--states,1000001",
+    "explore,f,--states=1,--states=1",
     "explore,f,--journal",
+    "explore,f,--states,5,--journal",
+    "explore,f,--end,1,--journal,--journal",
+    "explore,f,--steps,5",
 ];
 
 // The words of a row.
@@ -185,22 +271,27 @@ fn said(alloc: Global, row: &str) -> Result<Option<Command>, WordFault> {
 // Whether the command is this one.
 fn is_command(command: &Command, wanted: &Wanted) -> bool {
     match (command, wanted) {
-        (
-            Command::Run {
-                file,
-                steps,
-                journal,
-            },
-            Wanted::Run(name, asked, wants),
-        ) => file.as_str() == *name && steps == asked && journal == wants,
+        (Command::Run(run), Wanted::Run(name, asked, wants, turns)) => {
+            run.file.as_str() == *name
+                && run.steps == *asked
+                && run.journal == *wants
+                && run.schedule == *turns
+                && !run.why
+        }
+        (Command::Run(run), Wanted::Why(name)) => run.file.as_str() == *name && run.why,
         (Command::SelfRun { units }, Wanted::SelfRun(wanted)) => units == wanted,
-        (Command::Check { workload, journal }, Wanted::Check(first, second)) => {
-            workload.as_str() == *first && journal.as_str() == *second
+        (Command::Check(check), Wanted::Check(first, second)) => {
+            check.workload.as_str() == *first && check.journal.as_str() == *second
         }
         (Command::Flow { file }, Wanted::Flow(name)) => file.as_str() == *name,
-        (Command::Explore { file, end }, Wanted::Explore(name, wanted)) => {
-            file.as_str() == *name && end == wanted
+        (Command::Explore(explore), Wanted::Explore(name, most, wanted, wants)) => {
+            explore.file.as_str() == *name
+                && explore.states == *most
+                && explore.end == *wanted
+                && explore.journal == *wants
         }
+        (Command::Help, Wanted::Help) => true,
+        (Command::Version, Wanted::Version) => true,
         _ => false,
     }
 }

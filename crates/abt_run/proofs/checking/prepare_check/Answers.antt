@@ -11,7 +11,7 @@ returns-in_err-w-clause-stop g c = λ words says.
 pub returns-in_err-journal-clause-stop : goal.returns-in_err-journal-clause-stop
 returns-in_err-journal-clause-stop g c = λ words says.
     passed c.from_residual-in_err-journal.result c.in_err-journal.field-0.0 _ c.from_residual-in_err-journal.ensures.1
-    (no-journal-stops c.in_err-journal.field-0.0 _ _ _ c.in_ok-w.w _ _ _ _ says c.in_ok-w.ensures.reads (c.in_ok-w.ensures.same c.args.journal.now)
+    (no-journal-stops c.in_err-journal.field-0.0 _ (record { workload = c.args.workload.now; journal = c.args.journal.now }) c.in_ok-w.w _ _ _ _ says c.in_ok-w.ensures.reads (c.in_ok-w.ensures.same c.args.journal.now)
     c.in_ok-w.ensures.later c.in_err-journal.ensures.later c.in_err-journal.ensures.stop)
 
 pub returns-in_err-w-clause-missing : goal.returns-in_err-w-clause-missing

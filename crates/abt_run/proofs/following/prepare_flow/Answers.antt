@@ -9,7 +9,7 @@ pub returns-in_err-w-clause-stop : goal.returns-in_err-w-clause-stop
 returns-in_err-w-clause-stop g c = λ words stored same says.
     passed c.from_residual.result c.in_err-w.field-0.0 _ c.from_residual.ensures.1 (no-workload-stops c.in_err-w.field-0.0 _ _ _ _ says refl c.in_err-w.ensures.stop)
 
-pub outputs_text-requires : goal.outputs_text-requires
-outputs_text-requires g c =
+pub flow_text-requires-clause-words : goal.flow_text-requires-clause-words
+flow_text-requires-clause-words g c =
     let flow = rw c.in-Some.is at c.in_ok-flow.ensures in
-    record { words = rw c.items.ensures (flow-says c.in_ok-w.w _ (subst IsValid c.w.view_is c.w.invariant) c.in-Some.flow flow) }
+    flow-says c.in_ok-w.w _ (subst IsValid c.w.view_is c.w.invariant) c.in-Some.flow flow

@@ -11,8 +11,8 @@ returns-in-Ok g c =
     answered _ _ (as-many _ c.args.orders.now 2 c.requires.orders)
     (concluded (program _) _ c.in-Ok.done.conclusion c.in-Ok.done.text.items _ _ c.in-Ok.ensures.done c.number.ensures (rw c.deref.ensures.value at c.write_out-status.ensures))
     (λ command file says names gone. elim (c.in-Ok.ensures.absent command file says names gone) [ inl read ↦ absurd (not-stopped _ _ read) | inr refused ↦ absurd (not-stopped _ _ refused) ])
-    (λ workload journal W says tells gone. absurd (c.in-Ok.ensures.missing workload journal says gone))
-    (λ file asked journal says known still. absurd (c.in-Ok.ensures.exceeds file asked journal says known))
+    (λ w W says tells gone. absurd (c.in-Ok.ensures.missing w says gone))
+    (λ w says known still. absurd (c.in-Ok.ensures.exceeds w says known))
     (λ fault. absurd (not-stopped _ _ (c.in-Ok.ensures.faulty fault)))
 
 pub returns-in-Err : goal.returns-in-Err
@@ -23,6 +23,6 @@ returns-in-Err g c =
       | inl read ↦ missing-ends _ c.in-Err.stop c.stop_by-why.result (inl (stopped-by _ _ read)) c.number-in-Err.ensures c.stop_by-why.ensures.same
       | inr refused ↦ missing-ends _ c.in-Err.stop c.stop_by-why.result (inr (stopped-by _ _ refused)) c.number-in-Err.ensures c.stop_by-why.ensures.same
     ])
-    (λ workload journal W says tells gone. missing-ends _ c.in-Err.stop c.stop_by-why.result (lacks-second _ tells.0 W _ c.in-Err.stop tells.1 tells.2 (c.in-Err.ensures.missing workload journal says gone)) c.number-in-Err.ensures c.stop_by-why.ensures.same)
-    (λ file asked journal says known still. no-line-ends _ _ c.in-Err.stop c.stop_by-why.result (c.in-Err.ensures.exceeds file asked journal says known) still c.number-in-Err.ensures c.stop_by-why.ensures.same)
+    (λ w W says tells gone. missing-ends _ c.in-Err.stop c.stop_by-why.result (lacks-second _ tells.0 W _ c.in-Err.stop tells.1 tells.2 (c.in-Err.ensures.missing w says gone)) c.number-in-Err.ensures c.stop_by-why.ensures.same)
+    (λ w says known still. no-line-ends _ _ c.in-Err.stop c.stop_by-why.result (c.in-Err.ensures.exceeds w says known) still c.number-in-Err.ensures c.stop_by-why.ensures.same)
     (λ fault. missing-ends _ c.in-Err.stop c.stop_by-why.result (inl (stopped-by _ _ (c.in-Err.ensures.faulty fault))) c.number-in-Err.ensures c.stop_by-why.ensures.same)

@@ -8,13 +8,13 @@ use Rattle.abt_run.proofs.program.prepare.Goals as goal
 pub returns-in-Ok-Run-clause-done : goal.returns-in-Ok-Run-clause-done
 returns-in-Ok-Run-clause-done g c =
     c.prepare_file.ensures.done _
-    (subst (λ f. Says (map string_bytes c.args.words.now) (command.Run f c.in-Ok-Run.steps c.in-Ok-Run.journal)) (sym c.as_str.ensures)
+    (subst (λ f. Says (map string_bytes c.args.words.now) (command.Run (record c.in-Ok-Run.asked { file = f }))) (sym c.as_str.ensures)
     (subst (Says (map string_bytes c.args.words.now)) c.in-Ok-Run.field-0-is c.in-Ok-Run.ensures.said))
 
 pub returns-in-Ok-Run-clause-stop : goal.returns-in-Ok-Run-clause-stop
 returns-in-Ok-Run-clause-stop g c =
     c.prepare_file.ensures.stop _
-    (subst (λ f. Says (map string_bytes c.args.words.now) (command.Run f c.in-Ok-Run.steps c.in-Ok-Run.journal)) (sym c.as_str.ensures)
+    (subst (λ f. Says (map string_bytes c.args.words.now) (command.Run (record c.in-Ok-Run.asked { file = f }))) (sym c.as_str.ensures)
     (subst (Says (map string_bytes c.args.words.now)) c.in-Ok-Run.field-0-is c.in-Ok-Run.ensures.said))
 
 pub returns-in-Ok-SelfRun-clause-done : goal.returns-in-Ok-SelfRun-clause-done
@@ -24,8 +24,15 @@ returns-in-Ok-SelfRun-clause-done g c =
 pub returns-in-Ok-Check-clause-done : goal.returns-in-Ok-Check-clause-done
 returns-in-Ok-Check-clause-done g c =
     c.prepare_check.ensures.done c.args.keep (map string_bytes c.args.words.now)
-    (subst (λ w. Says (map string_bytes c.args.words.now) (command.Check w c.as_str-in-Ok-Check-2.result.now)) (sym c.as_str-in-Ok-Check.ensures)
-    (subst (λ j. Says (map string_bytes c.args.words.now) (command.Check c.in-Ok-Check.workload j)) (sym c.as_str-in-Ok-Check-2.ensures)
+    (subst (λ w. Says (map string_bytes c.args.words.now) (command.Check (record { workload = w; journal = c.as_str-in-Ok-Check-2.result.now }))) (sym c.as_str-in-Ok-Check.ensures)
+    (subst (λ j. Says (map string_bytes c.args.words.now) (command.Check (record { workload = c.in-Ok-Check.asked.workload; journal = j }))) (sym c.as_str-in-Ok-Check-2.ensures)
+    (subst (Says (map string_bytes c.args.words.now)) c.in-Ok-Check.field-0-is c.in-Ok-Check.ensures.said)))
+
+pub returns-in-Ok-Check-clause-stop : goal.returns-in-Ok-Check-clause-stop
+returns-in-Ok-Check-clause-stop g c =
+    c.prepare_check.ensures.stop (map string_bytes c.args.words.now)
+    (subst (λ w. Says (map string_bytes c.args.words.now) (command.Check (record { workload = w; journal = c.as_str-in-Ok-Check-2.result.now }))) (sym c.as_str-in-Ok-Check.ensures)
+    (subst (λ j. Says (map string_bytes c.args.words.now) (command.Check (record { workload = c.in-Ok-Check.asked.workload; journal = j }))) (sym c.as_str-in-Ok-Check-2.ensures)
     (subst (Says (map string_bytes c.args.words.now)) c.in-Ok-Check.field-0-is c.in-Ok-Check.ensures.said)))
 
 pub returns-in-Ok-Flow-clause-done : goal.returns-in-Ok-Flow-clause-done
@@ -40,15 +47,31 @@ returns-in-Ok-Flow-clause-stop g c =
     (subst (λ f. Says (map string_bytes c.args.words.now) (command.Flow f)) (sym c.as_str-in-Ok-Flow.ensures)
     (subst (Says (map string_bytes c.args.words.now)) c.in-Ok-Flow.field-0-is c.in-Ok-Flow.ensures.said))
 
+pub returns-in-Ok-Explore-clause-done : goal.returns-in-Ok-Explore-clause-done
+returns-in-Ok-Explore-clause-done g c =
+    c.prepare_explore.ensures.done c.args.keep (map string_bytes c.args.words.now)
+    (subst (λ f. Says (map string_bytes c.args.words.now) (command.Explore (record c.in-Ok-Explore.asked { file = f }))) (sym c.as_str-in-Ok-Explore.ensures)
+    (subst (Says (map string_bytes c.args.words.now)) c.in-Ok-Explore.field-0-is c.in-Ok-Explore.ensures.said))
+
+pub returns-in-Ok-Explore-clause-stop : goal.returns-in-Ok-Explore-clause-stop
+returns-in-Ok-Explore-clause-stop g c =
+    c.prepare_explore.ensures.stop _
+    (subst (λ f. Says (map string_bytes c.args.words.now) (command.Explore (record c.in-Ok-Explore.asked { file = f }))) (sym c.as_str-in-Ok-Explore.ensures)
+    (subst (Says (map string_bytes c.args.words.now)) c.in-Ok-Explore.field-0-is c.in-Ok-Explore.ensures.said))
+
+pub returns-in-Ok-Help-clause-done : goal.returns-in-Ok-Help-clause-done
+returns-in-Ok-Help-clause-done g c =
+    c.prepare_help.ensures.done _ c.args.keep (subst (Says (map string_bytes c.args.words.now)) c.in-Ok-Help.field-0-is c.in-Ok-Help.ensures.said)
+
+pub returns-in-Ok-Version-clause-done : goal.returns-in-Ok-Version-clause-done
+returns-in-Ok-Version-clause-done g c =
+    c.prepare_version.ensures.done _ c.args.keep (subst (Says (map string_bytes c.args.words.now)) c.in-Ok-Version.field-0-is c.in-Ok-Version.ensures.said)
+
 pub returns-in-Ok-Run-clause-absent : goal.returns-in-Ok-Run-clause-absent
 returns-in-Ok-Run-clause-absent g c = λ d file says names gone.
     inl (c.prepare_file.ensures.absent (subst (g.F.Files.absent c.args.files.now) (one-file (map string_bytes c.args.words.now) d _ file _ says
-    (subst (λ f. Says (map string_bytes c.args.words.now) (command.Run f c.in-Ok-Run.steps c.in-Ok-Run.journal)) (sym c.as_str.ensures)
+    (subst (λ f. Says (map string_bytes c.args.words.now) (command.Run (record c.in-Ok-Run.asked { file = f }))) (sym c.as_str.ensures)
     (subst (Says (map string_bytes c.args.words.now)) c.in-Ok-Run.field-0-is c.in-Ok-Run.ensures.said)) names refl) gone))
-
-pub returns-in-Ok-SelfRun-clause-absent : goal.returns-in-Ok-SelfRun-clause-absent
-returns-in-Ok-SelfRun-clause-absent g c = λ d file says names gone.
-    absurd (no-file (map string_bytes c.args.words.now) d _ file says (subst (Says (map string_bytes c.args.words.now)) c.in-Ok-SelfRun.field-0-is c.in-Ok-SelfRun.ensures.said) names refl)
 
 pub returns-in-Ok-Flow-clause-absent : goal.returns-in-Ok-Flow-clause-absent
 returns-in-Ok-Flow-clause-absent g c = λ d file says names gone.
@@ -56,57 +79,73 @@ returns-in-Ok-Flow-clause-absent g c = λ d file says names gone.
     (subst (λ f. Says (map string_bytes c.args.words.now) (command.Flow f)) (sym c.as_str-in-Ok-Flow.ensures)
     (subst (Says (map string_bytes c.args.words.now)) c.in-Ok-Flow.field-0-is c.in-Ok-Flow.ensures.said)) names refl) gone))
 
-pub returns-in-Ok-Run-clause-missing : goal.returns-in-Ok-Run-clause-missing
-returns-in-Ok-Run-clause-missing g c = λ workload journal says gone.
-    (let same = c.in-Ok-Run.ensures.only (command.Check workload journal) says ∙ c.in-Ok-Run.field-0-is in absurd (cc))
-
-pub returns-in-Ok-SelfRun-clause-missing : goal.returns-in-Ok-SelfRun-clause-missing
-returns-in-Ok-SelfRun-clause-missing g c = λ workload journal says gone.
-    (let same = c.in-Ok-SelfRun.ensures.only (command.Check workload journal) says ∙ c.in-Ok-SelfRun.field-0-is in absurd (cc))
-
-pub returns-in-Ok-Flow-clause-missing : goal.returns-in-Ok-Flow-clause-missing
-returns-in-Ok-Flow-clause-missing g c = λ workload journal says gone.
-    (let same = c.in-Ok-Flow.ensures.only (command.Check workload journal) says ∙ c.in-Ok-Flow.field-0-is in absurd (cc))
-
-pub returns-in-Ok-Run-clause-exceeds : goal.returns-in-Ok-Run-clause-exceeds
-returns-in-Ok-Run-clause-exceeds g c = λ file asked journal says known.
-    let same = c.in-Ok-Run.ensures.only (command.Run file asked journal) says ∙ c.in-Ok-Run.field-0-is in
-    c.prepare_file.ensures.exceeds (exceeds-same (λ name. g.F.Files.file c.args.files.now name) file _ _ asked _ journal _ same (sym c.as_str.ensures) known)
-
-pub returns-in-Ok-SelfRun-clause-exceeds : goal.returns-in-Ok-SelfRun-clause-exceeds
-returns-in-Ok-SelfRun-clause-exceeds g c = λ file asked journal says known.
-    (let same = c.in-Ok-SelfRun.ensures.only (command.Run file asked journal) says ∙ c.in-Ok-SelfRun.field-0-is in absurd (cc))
-
-pub returns-in-Ok-Check-clause-exceeds : goal.returns-in-Ok-Check-clause-exceeds
-returns-in-Ok-Check-clause-exceeds g c = λ file asked journal says known.
-    (let same = c.in-Ok-Check.ensures.only (command.Run file asked journal) says ∙ c.in-Ok-Check.field-0-is in absurd (cc))
-
-pub returns-in-Ok-Flow-clause-exceeds : goal.returns-in-Ok-Flow-clause-exceeds
-returns-in-Ok-Flow-clause-exceeds g c = λ file asked journal says known.
-    (let same = c.in-Ok-Flow.ensures.only (command.Run file asked journal) says ∙ c.in-Ok-Flow.field-0-is in absurd (cc))
-
-pub returns-in-Ok-Explore-clause-done : goal.returns-in-Ok-Explore-clause-done
-returns-in-Ok-Explore-clause-done g c =
-    c.prepare_explore.ensures.done c.args.keep (map string_bytes c.args.words.now)
-    (subst (λ f. Says (map string_bytes c.args.words.now) (command.Explore f c.in-Ok-Explore.end)) (sym c.as_str-in-Ok-Explore.ensures)
-    (subst (Says (map string_bytes c.args.words.now)) c.in-Ok-Explore.field-0-is c.in-Ok-Explore.ensures.said))
-
-pub returns-in-Ok-Explore-clause-stop : goal.returns-in-Ok-Explore-clause-stop
-returns-in-Ok-Explore-clause-stop g c =
-    c.prepare_explore.ensures.stop _
-    (subst (λ f. Says (map string_bytes c.args.words.now) (command.Explore f c.in-Ok-Explore.end)) (sym c.as_str-in-Ok-Explore.ensures)
-    (subst (Says (map string_bytes c.args.words.now)) c.in-Ok-Explore.field-0-is c.in-Ok-Explore.ensures.said))
-
 pub returns-in-Ok-Explore-clause-absent : goal.returns-in-Ok-Explore-clause-absent
 returns-in-Ok-Explore-clause-absent g c = λ d file says names gone.
     inl (c.prepare_explore.ensures.absent (subst (g.F.Files.absent c.args.files.now) (one-file (map string_bytes c.args.words.now) d _ file _ says
-    (subst (λ f. Says (map string_bytes c.args.words.now) (command.Explore f c.in-Ok-Explore.end)) (sym c.as_str-in-Ok-Explore.ensures)
+    (subst (λ f. Says (map string_bytes c.args.words.now) (command.Explore (record c.in-Ok-Explore.asked { file = f }))) (sym c.as_str-in-Ok-Explore.ensures)
     (subst (Says (map string_bytes c.args.words.now)) c.in-Ok-Explore.field-0-is c.in-Ok-Explore.ensures.said)) names refl) gone))
 
+pub returns-in-Ok-SelfRun-clause-absent : goal.returns-in-Ok-SelfRun-clause-absent
+returns-in-Ok-SelfRun-clause-absent g c = λ d file says names gone.
+    absurd (no-file (map string_bytes c.args.words.now) d _ file says (subst (Says (map string_bytes c.args.words.now)) c.in-Ok-SelfRun.field-0-is c.in-Ok-SelfRun.ensures.said) names refl)
+
+pub returns-in-Ok-Help-clause-absent : goal.returns-in-Ok-Help-clause-absent
+returns-in-Ok-Help-clause-absent g c = λ d file says names gone.
+    absurd (no-file (map string_bytes c.args.words.now) d _ file says (subst (Says (map string_bytes c.args.words.now)) c.in-Ok-Help.field-0-is c.in-Ok-Help.ensures.said) names refl)
+
+pub returns-in-Ok-Version-clause-absent : goal.returns-in-Ok-Version-clause-absent
+returns-in-Ok-Version-clause-absent g c = λ d file says names gone.
+    absurd (no-file (map string_bytes c.args.words.now) d _ file says (subst (Says (map string_bytes c.args.words.now)) c.in-Ok-Version.field-0-is c.in-Ok-Version.ensures.said) names refl)
+
+pub returns-in-Ok-Run-clause-missing : goal.returns-in-Ok-Run-clause-missing
+returns-in-Ok-Run-clause-missing g c = λ w says gone.
+    (let same = c.in-Ok-Run.ensures.only (command.Check w) says ∙ c.in-Ok-Run.field-0-is in absurd (cc))
+
+pub returns-in-Ok-SelfRun-clause-missing : goal.returns-in-Ok-SelfRun-clause-missing
+returns-in-Ok-SelfRun-clause-missing g c = λ w says gone.
+    (let same = c.in-Ok-SelfRun.ensures.only (command.Check w) says ∙ c.in-Ok-SelfRun.field-0-is in absurd (cc))
+
+pub returns-in-Ok-Flow-clause-missing : goal.returns-in-Ok-Flow-clause-missing
+returns-in-Ok-Flow-clause-missing g c = λ w says gone.
+    (let same = c.in-Ok-Flow.ensures.only (command.Check w) says ∙ c.in-Ok-Flow.field-0-is in absurd (cc))
+
 pub returns-in-Ok-Explore-clause-missing : goal.returns-in-Ok-Explore-clause-missing
-returns-in-Ok-Explore-clause-missing g c = λ workload journal says gone.
-    (let same = c.in-Ok-Explore.ensures.only (command.Check workload journal) says ∙ c.in-Ok-Explore.field-0-is in absurd (cc))
+returns-in-Ok-Explore-clause-missing g c = λ w says gone.
+    (let same = c.in-Ok-Explore.ensures.only (command.Check w) says ∙ c.in-Ok-Explore.field-0-is in absurd (cc))
+
+pub returns-in-Ok-Help-clause-missing : goal.returns-in-Ok-Help-clause-missing
+returns-in-Ok-Help-clause-missing g c = λ w says gone.
+    (let same = c.in-Ok-Help.ensures.only (command.Check w) says ∙ c.in-Ok-Help.field-0-is in absurd (cc))
+
+pub returns-in-Ok-Version-clause-missing : goal.returns-in-Ok-Version-clause-missing
+returns-in-Ok-Version-clause-missing g c = λ w says gone.
+    (let same = c.in-Ok-Version.ensures.only (command.Check w) says ∙ c.in-Ok-Version.field-0-is in absurd (cc))
+
+pub returns-in-Ok-Run-clause-exceeds : goal.returns-in-Ok-Run-clause-exceeds
+returns-in-Ok-Run-clause-exceeds g c = λ w says known.
+    let same = c.in-Ok-Run.ensures.only (command.Run w) says ∙ c.in-Ok-Run.field-0-is in
+    c.prepare_file.ensures.exceeds (exceeds-same (λ name. g.F.Files.file c.args.files.now name) w c.in-Ok-Run.asked _ same (sym c.as_str.ensures) known)
+
+pub returns-in-Ok-SelfRun-clause-exceeds : goal.returns-in-Ok-SelfRun-clause-exceeds
+returns-in-Ok-SelfRun-clause-exceeds g c = λ w says known.
+    (let same = c.in-Ok-SelfRun.ensures.only (command.Run w) says ∙ c.in-Ok-SelfRun.field-0-is in absurd (cc))
+
+pub returns-in-Ok-Check-clause-exceeds : goal.returns-in-Ok-Check-clause-exceeds
+returns-in-Ok-Check-clause-exceeds g c = λ w says known.
+    (let same = c.in-Ok-Check.ensures.only (command.Run w) says ∙ c.in-Ok-Check.field-0-is in absurd (cc))
+
+pub returns-in-Ok-Flow-clause-exceeds : goal.returns-in-Ok-Flow-clause-exceeds
+returns-in-Ok-Flow-clause-exceeds g c = λ w says known.
+    (let same = c.in-Ok-Flow.ensures.only (command.Run w) says ∙ c.in-Ok-Flow.field-0-is in absurd (cc))
 
 pub returns-in-Ok-Explore-clause-exceeds : goal.returns-in-Ok-Explore-clause-exceeds
-returns-in-Ok-Explore-clause-exceeds g c = λ file asked journal says known.
-    (let same = c.in-Ok-Explore.ensures.only (command.Run file asked journal) says ∙ c.in-Ok-Explore.field-0-is in absurd (cc))
+returns-in-Ok-Explore-clause-exceeds g c = λ w says known.
+    (let same = c.in-Ok-Explore.ensures.only (command.Run w) says ∙ c.in-Ok-Explore.field-0-is in absurd (cc))
+
+pub returns-in-Ok-Help-clause-exceeds : goal.returns-in-Ok-Help-clause-exceeds
+returns-in-Ok-Help-clause-exceeds g c = λ w says known.
+    (let same = c.in-Ok-Help.ensures.only (command.Run w) says ∙ c.in-Ok-Help.field-0-is in absurd (cc))
+
+pub returns-in-Ok-Version-clause-exceeds : goal.returns-in-Ok-Version-clause-exceeds
+returns-in-Ok-Version-clause-exceeds g c = λ w says known.
+    (let same = c.in-Ok-Version.ensures.only (command.Run w) says ∙ c.in-Ok-Version.field-0-is in absurd (cc))

@@ -25,6 +25,7 @@ returns-clause-done g c = λ words file_of says.
       may = refl;
       journal = left.events;
       run = left.holds;
+      scheduled = tt;
       output = c.in_ok-text.ensures left.events c.args.units (shown-in c.in_ok-w.w c.args.keep false c.keeps-keeps.result _ c.in_ok-ran.ran c.keeps-keeps.ensures left);
       kept = subst (λ (b : Bool). IsKept b left.events c.in_ok-ran.ran.journal) c.keeps-keeps.ensures left.kept;
     })
