@@ -116,8 +116,9 @@ try_threads() {
             finished
     } >"$room/chain.out"
     for threads in 0 1 7 15; do
-        meddled TRIAL_THREADS=$threads "$program" run "$room/text.abt"
+        meddled TRIAL_THREADS=$threads TRIAL_SLEEPS="$room/count" "$program" run "$room/text.abt"
         came "sixteen streams and $threads further threads" 0 "@$room/chain.out" ""
+        [ "$threads" != 0 ] || holds "streams that share one thread do not sleep for one another" [ "$(cat "$room/count")" -lt 4 ]
     done
     turns_text >"$room/turns.abt"
     holds "streams that wait for one another stay in their wave" starts_few
@@ -196,7 +197,7 @@ tries_full() {
     call "$program" check "$room/text.abt" "$room/full.journal"
     came "its journal" 0 run ""
     flow_text "$1" "$5" >"$room/text.abt"
-    { for unit in $(seq 0 $(($5 - 2))); do echo "unit $unit: 7"; done && echo "unit $(($5 - 1)):"; } >"$room/full.out"
+    { for unit in $(seq 0 $(($5 - 2))); do echo "unit $unit: 7"; done && echo "unit $(($5 - 1)):" && echo finishes; } >"$room/full.out"
     call "$program" flow "$room/text.abt"
     came "a flow of $5 units" 0 "@$room/full.out" ""
 }
@@ -213,7 +214,7 @@ try_bad_words() {
     for words in '' walk run 'run --journal' "run $hi more" "run $hi --journal --steps 5 more" "run $hi --steps" "run $hi --steps 0" "run $hi --steps 100001" \
         "run $hi --steps -1" "run $hi --steps +1" "run $hi --steps 1x" "run $hi --steps 5 --steps=5" "run $hi --journal --journal" \
         "run $hi --journal=x" "run $hi --help" "run $hi -j" "run -x" self 'self 0' 'self 127' 'self 1 2' 'self -1' 'self x' \
-        'self 99999999999999999999' 'self 3 --journal' Run '--help' '-h' '--version' help "-- run $hi" "$hi"; do
+        'self 99999999999999999999' 'self 3 --journal' Run '--help self' '-h' '--version --help' help "run $hi --in-turn --in-turn" "run $hi --in-turn=1" "-- run $hi" "$hi"; do
         call "$program" $words
         came "the words '$words'" 2 "" "$words_are_bad"
     done
@@ -234,6 +235,33 @@ try_bad_words() {
     came "as many steps as there may be by format 3" 0 "$hi_report" ""
     call "$program" run "$room/third.abt" --steps 16777217
     came "more than that" 2 "" "$words_are_bad"
+}
+
+# What the program says of itself, and runs in rotation: each is the same, and a run.
+try_words() {
+    local file turn
+    call "$program" --help
+    holds "help: the status" [ "$status $(wc -c <"$room/err")" = "0 0" ]
+    holds "help: the commands" [ "$(sed 's/^abtrun //; s/ .*//' "$room/out" | xargs)" = "run self check flow explore --help --version" ]
+    call "$program" --version
+    came "the version" 0 "abtrun 1" ""
+    call "$program" run "$data/stuck.abt" --why
+    { cat "$data/stuck.out" && printf '%s\n' 'unit 0 at mutex 1, owned by unit 1, which is blocked' \
+        'unit 1 at mutex 0, owned by unit 0, which is blocked' 'cycle 0 1'; } >"$room/why.out"
+    came "what units wait for" 1 "@$room/why.out" ""
+    call "$program" run "$hi" --why
+    came "no unit waits" 0 "@$data/hi.out" ""
+    for file in hi stealing collatz barrier; do
+        for turn in 1 2; do
+            call "$program" run "$data/$file.abt" --in-turn --journal
+            holds "$file in turn: the status" [ "$status" = 0 ]
+            cp "$room/out" "$room/turn.$turn"
+        done
+        holds "$file in turn: the same again" cmp -s "$room/turn.1" "$room/turn.2"
+        grep '^[0-9]' "$room/turn.1" >"$room/turn.journal"
+        call "$program" check "$data/$file.abt" "$room/turn.journal"
+        came "$file in turn: the journal" 0 "run" ""
+    done
 }
 
 # refused FAULT LINE: the text on standard input is refused so.
@@ -424,9 +452,9 @@ try_checks() {
     call "$program" check - -
     came "standard input twice" 2 "" "abtrun: bad command line"
     call "$program" flow "$hi"
-    came "a flow" 0 "unit 0: hi" ""
+    came "a flow" 0 $'unit 0: hi\nfinishes' ""
     "$program" run "$data/flow.abt" >"$room/text"
-    sed -n 's/^\(unit [0-9]*\) done:/\1:/p' "$room/text" >"$room/flow.out"
+    { sed -n 's/^\(unit [0-9]*\) done:/\1:/p' "$room/text" && echo finishes; } >"$room/flow.out"
     holds "a run puts out the flow" cmp -s "$room/flow.out" "$data/flow.out"
     call "$program" flow "$data/streams.abt"
     came "a workload that is not confluent" 1 "not confluent" ""
@@ -468,17 +496,19 @@ has_ends() {
     cp "$room/out" "$room/all"
     while [ "$count" -lt $# ]; do
         count=$((count + 1))
-        call "$program" explore "$room/ends.abt" "$count"
+        call "$program" explore "$room/ends.abt" --end "$count" --journal
         grep '^[0-9]' "$room/out" >"$room/end.journal"
         grep -v '^[0-9]' "$room/out" >"$room/end.report"
         awk -v end="$count" '/^end / { on = $2 == end; next } on' "$room/all" >"$room/all.report"
         holds "$title: the report of end $count" cmp -s "$room/end.report" "$room/all.report"
+        call "$program" explore "$room/ends.abt" --end "$count"
+        holds "$title: the report alone of end $count" cmp -s "$room/out" "$room/all.report"
         number=$(awk -v end="$count" '/^end / && $2 == end { print $5 }' "$room/all")
         holds "$title: the events of end $count" [ "$(wc -l <"$room/end.journal")" = "$number" ]
         call "$program" check "$room/ends.abt" "$room/end.journal"
         came "$title: the journal of end $count" 0 "run" ""
     done
-    call "$program" explore "$room/ends.abt" "$((count + 1))"
+    call "$program" explore "$room/ends.abt" --end "$((count + 1))"
     came "$title: an end that is not there" 8 "ends $count" ""
 }
 
@@ -552,8 +582,10 @@ try_ends() {
     came "states without end" 8 "too many states" ""
     call "$program" explore "$room/absent"
     came "ends of a file that is absent" 5 "" "$cannot_read"
-    call "$program" explore "$hi" 0
+    call "$program" explore "$hi" --end 0
     came "end 0" 2 "" "$words_are_bad"
+    call "$program" explore "$data/hi.abt" --states 1
+    came "too few states" 8 "too many states" ""
 }
 
 if ! make_meddler; then
@@ -567,6 +599,7 @@ try_threads
 try_neighbour
 try_full
 try_bad_words
+try_words
 try_faults
 try_lengths
 try_varied

@@ -54,6 +54,27 @@ try_runs() {
     came "the lives on standard input" 0 "@$made" ""
 }
 
+# Three streams of which each lives from wave to wave, and whose units hand one another on.
+chain_text() {
+    local unit
+    printf '%s\n' 'abt 2' 'streams 3'
+    for unit in 0 1 2; do echo "pool $unit fifo mpmc"; done
+    for unit in 0 1 2; do echo "sched $unit prio $unit"; done
+    for unit in 0 1 2; do echo "stream $unit main $unit"; done
+    for unit in $(seq 0 60); do echo "object $unit eventual"; done
+    echo 'units 60'
+    for unit in $(seq 0 59); do printf '%s\n' "unit $unit ult at $((unit % 3))" "ewait $((unit + 1))" "eset $unit"; done
+}
+
+# Streams that share one thread do not sleep for one another, in any wave.
+try_threads() {
+    { chain_text | sed 's/^ewait 60$/set 1/' && echo end; } >"$room/chain.abt"
+    meddled TRIAL_THREADS=0 TRIAL_SLEEPS="$room/count" "$program" "$room/chain.abt" "$room/none.lives"
+    holds "three streams and no further thread" [ "$status $(grep -c '^finished$' "$room/out")" = "0 1" ]
+    holds "there were several waves" [ "$(grep -c '^wave ' "$room/out")" -gt 5 ]
+    holds "streams that share one thread do not sleep for one another" [ "$(cat "$room/count")" -lt 4 ]
+}
+
 try_bad_words() {
     local words
     for words in '' one 'one two three' '- -' '--help' '-h one' '--version' 'one --journal' '--steps 5 one'; do
@@ -177,6 +198,7 @@ fi
 mkfifo "$room/fifo"
 write_long
 try_runs
+try_threads
 try_bad_words
 try_bad_lives
 try_lengths

@@ -6,20 +6,36 @@ instructions() {
     valgrind --tool=callgrind --callgrind-out-file=/dev/null "$program" "$@" 2>&1 >/dev/null | sed -n 's/.*I *refs: *//p' | tr -d ,
 }
 
-# takes TITLE MOST FILE: an event of the workload's run takes at most so many, beside what a run of one step takes.
-takes() {
-    local all start events each
-    all=$(instructions run "$3" --steps 100000)
-    start=$(instructions run "$3" --steps 1)
-    events=$("$program" run "$3" --steps 100000 --journal | grep -c '^[0-9]')
-    each=$(((${all:-0} - ${start:-0}) / (events + 1)))
+# allows TITLE MOST ALL BESIDE EVENTS: all but those beside are at most so many an event.
+allows() {
+    local each=$(((${3:-0} - ${4:-0}) / ($5 + 1)))
     [ "$each" -gt 0 ] && [ "$each" -le "$2" ] && pass || miss "$1" "$each instructions an event, and at most $2 are allowed"
+}
+
+# takes TITLE MOST FILE: what an event of the workload's run takes, beside a run of one step.
+takes() {
+    "$program" run "$3" --steps 100000 --journal | grep '^[0-9]' >"$3.journal"
+    allows "$1" "$2" "$(instructions run "$3" --steps 100000)" "$(instructions run "$3" --steps 1)" "$(wc -l <"$3.journal")"
+}
+
+# prints, checks TITLE MOST FILE: what a line of that run's journal takes, printed beside the run, and read and checked.
+prints() {
+    allows "$1" "$2" "$(instructions run "$3" --steps 100000 --journal)" "$(instructions run "$3" --steps 100000)" "$(wc -l <"$3.journal")"
+}
+
+checks() {
+    allows "$1" "$2" "$(instructions check "$3" "$3.journal")" "$(instructions check "$3" /dev/null)" "$(wc -l <"$3.journal")"
 }
 
 # one_stream NAME LINES: a workload of format 2 whose one stream has 256 units with these operations.
 one_stream() {
     printf '%s\n' 'abt 2' 'streams 1' 'pool 0 fifo mpmc' 'sched 0 prio 0' 'stream 0 main 0' 'object 0 mutex' 'units 256' \
         'many 0 256 ult at 0' "$2" end >"$room/$1.abt"
+}
+
+# beside_idle NAME LINES: the same workload with seven more streams, which have nothing to do.
+beside_idle() {
+    { streams_text 2 8 && printf '%s\n' 'object 0 mutex' 'units 256' 'many 0 256 ult at 0' "$2" end; } >"$room/$1.abt"
 }
 
 if ! command -v valgrind >/dev/null; then
@@ -29,6 +45,10 @@ fi
 one_stream yields 'repeat 255 yield'
 one_stream adds 'repeat 255 add 1'
 one_stream locks "$(for _ in {1..127}; do printf 'lock 0\nunlock 0\n'; done)"
+beside_idle idle 'repeat 255 yield'
 takes yields 180 "$room/yields.abt"
+takes idle 198 "$room/idle.abt"
 takes adds 200 "$room/adds.abt"
 takes locks 295 "$room/locks.abt"
+prints printed 200 "$room/yields.abt"
+checks checked 750 "$room/yields.abt"

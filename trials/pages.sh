@@ -43,7 +43,7 @@ leads() {
 
 try_links() {
     local page link lost
-    for page in README.md bench/*.md docs/*.md docs/*/*.md crates/*/*.md crates/*/data/*.md; do
+    for page in README.md CHANGELOG.md bench/*.md docs/*.md docs/*/*.md crates/*/*.md crates/*/data/*.md; do
         [ -f "$page" ] || continue
         lost=
         while IFS= read -r link; do
