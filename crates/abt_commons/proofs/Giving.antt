@@ -1,7 +1,8 @@
 -- Units that objects give out.
-use Rattle.std.proofs.Common.{◌≡◌, ℕ, zero, suc, ◌+◌, ◌<◌, true, false, List, [], ◌∷◌, ◌++◌, map, set, drop, length, slice_get, Option, Some, None, refl, sym, ◌∙◌, ap, ap₂, subst, arith, append-nil, append_assoc}
+use Rattle.std.proofs.Common.{◌≡◌, ℕ, zero, suc, ◌+◌, ◌<◌, ◌≤◌, true, false, List, [], ◌∷◌, ◌++◌, map, set, drop, length, slice_get, Option, Some, None, refl, sym, ◌∙◌, ap, ap₂, subst, arith, append-nil, append_assoc}
 use Rattle.std.specs.List.{All, flat_map, range_with_len}
 use Rattle.std.proofs.lemmas.Grind.{flat_map-append}
+use Rattle.std.proofs.lemmas.List.{drop_all}
 use Rattle.std.proofs.lemmas.List.Folds.{flat_map-map}
 use Rattle.std.proofs.lemmas.List.Elements.{All-append, All-map, All-nil}
 use Rattle.abt_machine.specs.declared.events.Shown.{Shown}
@@ -55,6 +56,10 @@ rows-taken c cs zero (os ∷ conds) = refl
 rows-taken c cs (suc k) (os ∷ conds) =
     let e : suc k + 1 ≡ suc (k + 1) = omega arith in
     rows-taken c cs k conds ∙ ap (λ n. rows_as (shows.Object (object_no c)) (list_from (slice_get conds k)) ++ rows_at cs (drop n (os ∷ set conds k []))) (sym e)
+
+-- past the last condition nobody waits
+pub rows-past : (cs : List ℕ) (k : ℕ) (conds : List (List Owned)) → length conds ≤ k → rows_at cs (drop k conds) ≡ []
+rows-past cs k conds past = ap (rows_at cs) (drop_all k conds past) ∙ rows-nowhere cs
 
 module _ (m y : ℕ) (things : List Thing) (t : Thing) (here : slice_get things y ≡ Some t) where
   -- a thing that is no condition of the mutex

@@ -158,6 +158,9 @@ fn give_conditions(
 {
     let mut cond = 0;
     for number in 0..w.objects() {
+        if !monitor.has_condition(cond) {
+            return Ok(());
+        }
         let y = ObjectNo(number);
         if !w.thing(y).is_condition_of(x) {
             continue;

@@ -15,7 +15,7 @@ use abt_booth::Object;
 use abt_desk::Desk;
 use abt_eventual::{Eventual, Future};
 use abt_machine::{Body, ObjectNo, PoolNo, Thing, UnitNo, Want, Workload};
-use abt_monitor::{Monitor, conditions_of};
+use abt_monitor::Monitor;
 use abt_pool::Pool;
 use abt_rwlock::RwLock;
 use abt_unit::Unit;
@@ -130,7 +130,7 @@ fn placed_thing(alloc: Global, w: &Workload, x: ObjectNo) -> Result<Shared, Want
 {
     w.known();
     Ok(match w.thing(x) {
-        Thing::Mutex => Shared::Monitor(Monitor::new(alloc, conditions_of(w, x))?),
+        Thing::Mutex => Shared::Monitor(Monitor::new(alloc, w.conditions(x))?),
         Thing::Cond(_) => Shared::WithItsMutex,
         Thing::Eventual => Shared::Eventual(Eventual::new()),
         Thing::Future(size, combine) => Shared::Future(Future::new(size, combine)),

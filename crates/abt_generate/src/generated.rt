@@ -29,7 +29,7 @@ pub fn generate(alloc: Global, n: u32) -> Result<Workload, Want>
         access: Access::Mpmc,
     };
     let mains = vec![in alloc; SchedNo(0), SchedNo(1), SchedNo(2), SchedNo(3)]?;
-    Ok(Workload::new(Parts {
+    let parts = Parts {
         streams: STREAMS,
         keys: 0,
         pools: PoolParts::new(vec![in alloc; deque, deque, deque, deque]?),
@@ -38,7 +38,8 @@ pub fn generate(alloc: Global, n: u32) -> Result<Workload, Want>
         objects: Things::new(vec![in alloc; Thing::Mutex]?),
         units: UnitParts::new(units(alloc, n)?),
         words: Texts::new(Vec::new(alloc)),
-    }))
+    };
+    Workload::new(alloc, parts)
 }
 
 fn scheds(alloc: Global, n: u32) -> Result<Vec<SchedPart>, AllocError>

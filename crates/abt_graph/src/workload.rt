@@ -24,7 +24,7 @@ pub fn workload_of(alloc: Global, streams: u32, nodes: &[Node]) -> Result<Worklo
     requires graph { IsGraph nodes.now }
     ensures { IfOk result (λ w. w ≡ workload_of streams nodes.now) }
 {
-    Ok(Workload::new(Parts {
+    let parts = Parts {
         streams,
         keys: KEY_LIMIT,
         pools: PoolParts::new(deques(alloc, streams)?),
@@ -33,7 +33,8 @@ pub fn workload_of(alloc: Global, streams: u32, nodes: &[Node]) -> Result<Worklo
         objects: Things::new(eventuals(alloc, nodes.len())?),
         units: UnitParts::new(units(alloc, streams, nodes)?),
         words: Texts::new(Vec::new(alloc)),
-    }))
+    };
+    Workload::new(alloc, parts)
 }
 
 fn deques(alloc: Global, streams: u32) -> Result<Vec<PoolPart>, AllocError>

@@ -1,5 +1,6 @@
 pub mod Checked
 pub mod Classes
+pub mod Conditions
 pub mod Decimals
 pub mod Declared
 pub mod Distinct

@@ -6,6 +6,7 @@ pub mod Carrying
 pub mod Changes
 pub mod Checks
 pub mod Codes
+pub mod Counting
 pub mod Declaring
 pub mod Desks
 pub mod EventSites

@@ -1,6 +1,7 @@
 //! The written machine: its types, its definitions and the readers of a workload.
 #![tactic(auto)]
 
+mod counting;
 mod events;
 mod grammar;
 mod items;

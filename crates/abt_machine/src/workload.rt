@@ -1,14 +1,18 @@
 //! A workload and its parts.
 
-ghost use Rattle.std.specs.Prelude.{◌≡◌, ◌<◌, length, slice_get, Some, map};
+ghost use Rattle.std.specs.Prelude.{◌≡◌, ◌<◌, IfOk, count_by, length, slice_get, Some, map};
 ghost use Rattle.abt_machine.specs.Valid.{IsValid};
-ghost use Rattle.abt_machine.specs.Workloads.{IsCondition, access_of, condition_number, main_of, mutex_of, op_at, pools_of, thing_at};
+ghost use Rattle.abt_machine.specs.Operations.{IsMutex};
+ghost use Rattle.abt_machine.specs.Workloads.{IsCondition, access_of, condition_number, is_condition_of, main_of, mutex_of, op_at, pools_of, thing_at};
 ghost use Rattle.abt_machine.specs.Access.{may_put, may_take};
 ghost use Rattle.abt_machine.specs.declared.numbers.PoolNo.{PoolNo};
 
+use crate::counting::counted;
 use crate::items::{Items, Text};
 use crate::numbers::{ObjectNo, PoolNo, SchedNo, StreamNo, UnitNo};
 use crate::operations::{Access, Body, Kind, Op, Pools, Rule, Thing};
+use crate::program::Want;
+use std::alloc::Global;
 use std::marker::Model;
 
 /// A pool.
@@ -67,25 +71,31 @@ pub struct Parts {
 #[derive(Drop)]
 pub struct Workload {
     parts: Parts,
+    // At each mutex how many conditions it has, and at each condition how many of its mutex are declared before it.
+    counts: Vec<u32>,
 }
 
 impl Model for Workload {
+    ghost use Rattle.std.specs.Prelude.{length};
     ghost use Rattle.abt_machine.specs.declared.workload.Parts.{Parts};
+    ghost use Rattle.abt_machine.specs.Counting.{AreCounted};
     ghost use Rattle.abt_machine.specs.Valid.{IsValid};
 
     ghost Value = { Parts };
 
     ghost view = { λ w. w.parts };
 
-    ghost invariant = { λ w. IsValid w.parts };
+    ghost invariant = { λ w. IsValid w.parts × AreCounted w.parts.objects (length w.parts.objects) w.counts.items };
 }
 
 impl Workload {
-    pub fn new(parts: Parts) -> Workload
+    /// The workload of valid parts. It takes memory for a number an object.
+    pub fn new(alloc: Global, parts: Parts) -> Result<Workload, Want>
         requires { IsValid parts }
-        ensures { result ≡ parts }
+        ensures { IfOk result (λ w. w ≡ parts) }
     {
-        Workload { parts }
+        let counts = counted(alloc, parts.objects.items())?;
+        Ok(Workload { parts, counts })
     }
 
     /// Computes nothing: here a caller learns that the parts are valid, and so that what they name is
@@ -215,11 +225,15 @@ impl Workload {
         ensures mutex { result.0.0 ≡ mutex_of self.now x.0 }
         ensures number { result.1 ≡ condition_number self.now x.0 }
     {
-        let objects = self.parts.objects.items();
-        let mutex = self.mutex(x);
-        let before = &objects[..x.0 as usize];
-        let number = before.iter().filter(|t| t.is_condition_of(mutex)).count();
-        (mutex, number as u32)
+        (self.mutex(x), self.counts[x.0 as usize])
+    }
+
+    /// How many conditions a mutex has.
+    pub fn conditions(&self, mutex: ObjectNo) -> u32
+        requires { IsMutex self.now mutex.0 }
+        ensures { result ≡ count_by (is_condition_of mutex.0) self.now.objects }
+    {
+        self.counts[mutex.0 as usize]
     }
 }
 

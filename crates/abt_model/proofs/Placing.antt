@@ -56,7 +56,7 @@ drop-here (y ∷ ys) zero x is = cc
 drop-here (y ∷ ys) (suc i) x is = let e : suc i + 1 ≡ suc (i + 1) = omega arith in drop-here ys i x is ∙ ap (λ n. x ∷ drop n (y ∷ ys)) (sym e)
 
 -- none waits where there are no conditions
-rows-nowhere : (cs : List ℕ) → rows_at cs [] ≡ []
+pub rows-nowhere : (cs : List ℕ) → rows_at cs [] ≡ []
 rows-nowhere [] = refl
 rows-nowhere (c ∷ cs) = refl
 

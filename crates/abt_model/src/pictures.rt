@@ -192,6 +192,9 @@ fn place_conditions(
 {
     let mut left = conds;
     for y in 0..w.objects() {
+        if left.is_empty() {
+            return Ok(());
+        }
         if !w.thing(ObjectNo(y)).is_condition_of(x) {
             continue;
         }

@@ -11,7 +11,6 @@ ghost use Rattle.abt_replay.specs.Phases.{phase_of};
 ghost use Rattle.abt_machine.specs.Workloads.{start_of};
 
 use abt_machine::{Body, ObjectNo, PoolNo, StreamNo, Thing, UnitNo, Want, Workload};
-use abt_monitor::conditions_of;
 use abt_replay::{
     Barrier, Desk, Eventual, Future, Kept, Lane, Monitor, Objects, Phase, Pool, RwLock, Slot, Unit,
 };
@@ -103,7 +102,7 @@ fn slot(alloc: Global, w: &Workload, x: ObjectNo) -> Result<Slot, Want>
     ensures { IfOk result (λ slot. slot ≡ slot_at w.now x.0) }
 {
     let kept = match w.thing(x) {
-        Thing::Mutex => Kept::Monitor(Monitor::new(alloc, conditions_of(w, x))?),
+        Thing::Mutex => Kept::Monitor(Monitor::new(alloc, w.conditions(x))?),
         Thing::Cond(_) => Kept::WithItsMutex,
         Thing::Eventual => Kept::Eventual(Eventual::new(alloc)),
         Thing::Future(size, combine) => Kept::Future(Future::new(alloc, size, combine)),

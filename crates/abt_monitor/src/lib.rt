@@ -1,12 +1,10 @@
 //! Monitors: a mutex with the number that it guards, and its conditions.
 #![tactic(auto)]
 
-mod counting;
 mod laws;
 mod monitor;
 mod waiters;
 
-pub use counting::conditions_of;
 pub use laws::{
     free_mutexes_have_no_waiters, monitors_keep_their_conditions, monitors_keep_what_fits,
 };

@@ -1,6 +1,6 @@
 //! A mutex with the number that it guards, and its conditions.
 
-ghost use Rattle.std.specs.Prelude.{◌≡◌, ◌<◌, ◌↔◌, Box, [], length, replicate, IfErr, IfOk, IfSome, IsTrue, None, Some, option_map};
+ghost use Rattle.std.specs.Prelude.{◌≡◌, ◌<◌, ◌↔◌, Box, [], length, nat_lt, replicate, IfErr, IfOk, IfSome, IsTrue, None, Some, option_map};
 ghost use Rattle.std.specs.List.{find};
 ghost use Rattle.std.specs.Option.{ForSome};
 ghost use Rattle.std.specs.declared.alloc.Global.{Global};
@@ -179,6 +179,13 @@ impl Monitor {
             None => self.waiters.find(u),
             Some(cond) => self.conds[cond as usize].find(u),
         }
+    }
+
+    /// Whether it has a condition of that number.
+    pub fn has_condition(&self, cond: u32) -> bool
+        ensures { result ≡ nat_lt cond (length self.now.conds) }
+    {
+        (cond as usize) < self.conds.len()
     }
 
     /// Takes out, in order, all units that wait for the mutex, or at the condition that is given: none if there is no

@@ -45,4 +45,4 @@ Parts-sync : IsSync (Parts.the_field).row
 Parts-sync = search (sendable, crosses, Items-sync, UnitPart-sync, SchedPart-sync) depth 90 fits 20000
 
 pub Workload-sync : IsSync Workload.the_row
-Workload-sync = search (sendable, Parts-sync) depth 30
+Workload-sync = search (sendable, Vec-sync, Parts-sync) depth 30

@@ -182,8 +182,11 @@ pub fn read(alloc: Global, bytes: &[u8]) -> Result<Workload, NotRead>
         });
     }
     let draft = read_lines(alloc, bytes)?;
-    match draft.into_parts(alloc) {
-        Ok(parts) => Ok(Workload::new(parts)),
-        Err(_) => Err(NotRead::Memory),
+    let Ok(parts) = draft.into_parts(alloc) else {
+        return Err(NotRead::Memory);
+    };
+    match Workload::new(alloc, parts) {
+        Ok(w) => Ok(w),
+        Err(Want) => Err(NotRead::Memory),
     }
 }

@@ -3,7 +3,7 @@
 use crate::parts::{Role, scheds, texts, unit};
 use abt_machine::{
     Access, Combine, Kind, Mains, ObjectNo, Op, Parts, PoolNo, PoolPart, PoolParts, Rule, SchedNo,
-    StreamNo, Thing, Things, UnitNo, UnitParts, Workload,
+    StreamNo, Thing, Things, UnitNo, UnitParts, Want, Workload,
 };
 use std::alloc::{AllocError, Global};
 use std::process::Abort;
@@ -94,7 +94,7 @@ fn three_units(alloc: Global) -> Result<UnitParts, AllocError> {
 }
 
 // A workload of two streams.
-fn workload(rt: &impl Abort, alloc: Global) -> Result<Workload, AllocError> {
+fn workload(rt: &impl Abort, alloc: Global) -> Result<Workload, Want> {
     let parts = Parts {
         streams: 2,
         keys: 4,
@@ -106,7 +106,7 @@ fn workload(rt: &impl Abort, alloc: Global) -> Result<Workload, AllocError> {
         words: texts(alloc, &["hi", "on"])?,
     };
     assert!(rt; parts.is_valid());
-    Ok(Workload::new(parts))
+    Ok(Workload::new(alloc, parts)?)
 }
 
 // Pools and schedulers.

@@ -1,13 +1,21 @@
 -- One thing more.
-use Rattle.std.proofs.Common.{◌≡◌, ◌+◌, ◌++◌, [], drop, set, slice_get, sym, ◌∙◌, ap, ap₂, arith, append_assoc}
+use Rattle.std.proofs.Common.{◌≡◌, ◌+◌, ◌++◌, [], drop, length, set, slice_get, sym, ◌∙◌, ap, ap₂, arith, append-nil, append_assoc}
+use Rattle.std.proofs.lemmas.Bool.{ltb-false}
 use Rattle.abt_machine.specs.declared.events.Shown.TheVariants as shows
 use Rattle.abt_machine.specs.Monitors.{list_from}
 use Rattle.abt_machine.specs.Numbers.{object_no}
 use Rattle.abt_machine.specs.Values.{MonitorValue, conditions_from}
 use Rattle.abt_calls.specs.Showing.{rows_as, rows_at}
 use Rattle.abt_commons.specs.Groups.{rows_in}
-use Rattle.abt_commons.proofs.Giving.{met, passed, rows-taken}
+use Rattle.abt_commons.proofs.Giving.{met, passed, rows-past, rows-taken}
 use Rattle.abt_commons.proofs.groups.give_conditions.Goals as goal
+
+pub returns-then-not-has_condition : goal.returns-then-not-has_condition
+returns-then-not-has_condition c =
+    let at = c.loop-number in
+    let cs = conditions_from c.args.x.0 at.number (drop at.number c.args.w.now.objects) in
+    let past = ltb-false at.cond (length at.monitor.conds) (sym c.has_condition.ensures ∙ c.if-not-has_condition.true) in
+    sym (ap (λ rs. rows_in at.groups.items ++ rs) (rows-past cs at.cond at.monitor.conds past) ∙ append-nil (rows_in at.groups.items)) ∙ at.invariant.rows
 
 pub loop-number-preserved-then-not-is_condition_of : goal.loop-number-preserved-then-not-is_condition_of
 loop-number-preserved-then-not-is_condition_of c =

@@ -1,5 +1,7 @@
 -- One thing more.
-use Rattle.std.proofs.Common.{◌∙◌, ◌+◌, ap, ap₂, drop, sym}
+use Rattle.std.proofs.Common.{◌∙◌, ◌+◌, ap, ap₂, drop, length, sym}
+use Rattle.std.proofs.lemmas.Bool.{eqb-true}
+use Rattle.std.proofs.lemmas.List.{nil_from_length}
 use Rattle.abt_machine.specs.declared.events.Shown.TheVariants as shows
 use Rattle.abt_machine.specs.Monitors.{list_from}
 use Rattle.abt_machine.specs.Numbers.{object_no}
@@ -7,8 +9,15 @@ use Rattle.abt_machine.specs.Queues.{first}
 use Rattle.abt_machine.specs.Values.{conditions_from}
 use Rattle.abt_calls.specs.Showing.{rows_as, rows_at}
 use Rattle.abt_model.specs.Pictures.{placed}
-use Rattle.abt_model.proofs.Placing.{first-rows, met, passed, placed-append}
+use Rattle.abt_model.proofs.Placing.{first-rows, met, passed, placed-append, rows-nowhere}
 use Rattle.abt_model.proofs.pictures.place_conditions.Goals as goal
+
+pub returns-then-is_empty : goal.returns-then-is_empty
+returns-then-is_empty c =
+    let at = c.loop-y in
+    let cs = conditions_from c.args.x.0 at.y (drop at.y c.args.w.now.objects) in
+    let none = nil_from_length at.left.now (eqb-true (length at.left.now) 0 (sym c.is_empty.ensures ∙ c.if-is_empty.true)) in
+    sym (ap (λ rs. placed rs at.rows.items) (ap (rows_at cs) none ∙ rows-nowhere cs)) ∙ at.invariant.rows
 
 pub loop-y-preserved-then-not-is_condition_of : goal.loop-y-preserved-then-not-is_condition_of
 loop-y-preserved-then-not-is_condition_of c =

@@ -9,5 +9,5 @@ into_parts-requires c = seen-closable c.args.bytes.now _ c.in_ok-draft.ensures.o
 pub new-requires : goal.new-requires
 new-requires c = seen-valid c.args.bytes.now _ c.in-Ok.parts c.in_ok-draft.ensures.ok c.in-Ok.ensures
 
-pub returns-in-Ok-clause-ok : goal.returns-in-Ok-clause-ok
-returns-in-Ok-clause-ok c = seen-reads c.args.bytes.now _ _ (ltb-false _ _ (sym c.is_too_long.ensures ∙ c.if-is_too_long.false)) c.in_ok-draft.ensures.ok (c.new.ensures ∙ c.in-Ok.ensures)
+pub returns-in-Ok-new-clause-ok : goal.returns-in-Ok-new-clause-ok
+returns-in-Ok-new-clause-ok c = seen-reads c.args.bytes.now _ _ (ltb-false _ _ (sym c.is_too_long.ensures ∙ c.if-is_too_long.false)) c.in_ok-draft.ensures.ok (c.in-Ok-new.ensures ∙ c.in-Ok.ensures)
