@@ -1,5 +1,5 @@
 -- The streams of a wave with their passes, when it begins and when they are back.
-use Rattle.std.proofs.Common.{◌≡◌, ◌≢◌, ℕ, zero, suc, ◌<◌, ◌≤◌, ◌^◌, inl, inr, Bool, List, [], ◌∷◌, map, length, get_or, slice_get, Some, refl, sym, ◌∙◌, ap, subst, arith}
+use Rattle.std.proofs.Common.{◌≡◌, ℕ, zero, suc, ◌<◌, ◌≤◌, ◌^◌, inl, inr, Bool, List, [], ◌∷◌, map, length, get_or, slice_get, Some, refl, sym, ◌∙◌, ap, subst, arith}
 use Rattle.std.specs.Prelude.{option_map, slice_index_or}
 use Rattle.std.specs.List.{All}
 use Rattle.std.proofs.lemmas.List.{length-map}
@@ -9,22 +9,18 @@ use Rattle.abt_machine.specs.declared.numbers.StreamNo.{StreamNo}
 use Rattle.abt_machine.specs.Stored.{Stored}
 use Rattle.abt_machine.specs.declared.workload.Parts.{Parts}
 use Rattle.abt_machine.specs.Outcomes.{steps_in}
-use Rattle.abt_interleave.specs.Weaving.{TellsLocks}
 use Rattle.abt_commons.specs.AllPasses.{AreAll}
 use Rattle.abt_commons.specs.Held.{ObjectsValue}
 use Rattle.abt_laws.proofs.Options.{some-injective}
 use Rattle.abt_stream.specs.Streams.{StreamValue}
 use Rattle.abt_drain.specs.Crews.{log_from}
 use Rattle.abt_waves.specs.declared.voyages.Returned.{Returned}
-use Rattle.abt_waves.specs.declared.voyages.Stop.{Stop}
-use Rattle.abt_waves.specs.declared.voyages.Stop.TheVariants as stop
 use Rattle.abt_waves.specs.Fleets.{IsFleetOver}
 use Rattle.abt_waves.specs.Jobs.{HasReturned, JobValue, MayGo, jobs_of}
-use Rattle.abt_waves.specs.Locks.{AreClosed, HasSeenNothing, LocksValue}
-use Rattle.abt_waves.specs.Stops.{StopsBy}
-use Rattle.abt_waves.specs.Voyages.{HasPass, IsWorn}
-use Rattle.abt_waves.specs.Waves.{pass_in, stop_in}
-use Rattle.abt_waves.proofs.Rejoining.{Came, unworn}
+use Rattle.abt_waves.specs.Locks.{HasSeenNothing, LocksValue}
+use Rattle.abt_waves.specs.Voyages.{HasPass}
+use Rattle.abt_waves.specs.Waves.{pass_in}
+use Rattle.abt_waves.proofs.Rejoining.{Came}
 
 -- an element within a list
 within : {A : Type 0} (xs : List A) (k : ℕ) → k < length xs → (x : A) × (slice_get xs k ≡ Some x)
@@ -34,7 +30,7 @@ within xs k lt = elim (slice_get_cases xs k).1 [ inl one ↦ (one.0, one.2) | in
 all-from : {A : Type 0} (F : A → Type 0) (xs : List A) → ((k : ℕ) (x : A) → slice_get xs k ≡ Some x → F x) → All F xs
 all-from F xs each = λ k d lt. each k (get_or xs k d) (slice_get-get_or xs k d lt)
 
-all-at : {A : Type 0} (F : A → Type 0) (xs : List A) → All F xs → (k : ℕ) (x : A) → slice_get xs k ≡ Some x → F x
+pub all-at : {A : Type 0} (F : A → Type 0) (xs : List A) → All F xs → (k : ℕ) (x : A) → slice_get xs k ≡ Some x → F x
 all-at F xs all k x e = subst F (get_or_from_slice_get xs k x x e) (all k x (slice_get_within xs k x e))
 
 module _ {Locks Pass : Type 0} (own : Locks) where
@@ -120,7 +116,7 @@ module _ {Locks Lock Pass : Type 0} (IsOf : Locks → Pass → Type 0) (value : 
         subst (λ (q : JobValue Locks Pass × Returned Pass). HasReturned IsOf value lock W Z q.0 q.1)
         (λ i. (get_or_from_slice_get jobs s job job at i, get_or_from_slice_get returned s r.0 r.0 r.1 i))
         (each s job r.0 (slice_get_within jobs s job at)) in
-        record { back = r.0; at = r.1; has = is_back.has; gone = is_back.gone; stops = is_back.stops; still = λ dead. is_back.still (some-injective (sym l.1 ∙ dead)) }
+        record { back = r.0; at = r.1; flag = l.0; marked = l.1; has = is_back.has; gone = is_back.gone; stops = is_back.stops; still = λ dead. is_back.still (some-injective (sym l.1 ∙ dead)) }
 
     -- a pass that came back is a stream's
     back-is : (s : ℕ) (back : Returned Pass) → slice_get returned s ≡ Some back → (stream : StreamValue) × (e : slice_get streams s ≡ Some stream) × ((came s stream e).back ≡ back)
@@ -147,18 +143,3 @@ module _ {Locks Lock Pass : Type 0} (IsOf : Locks → Pass → Type 0) (value : 
           let m : length (map pass_in returned) ≡ length returned = length-map returned pass_in in
           let r : (back : Returned Pass) × (slice_get returned s ≡ Some back) = within returned s (omega arith) in
           (r.0, r.1, some-injective (sym (slice_get-map pass_in returned s ∙ ap (option_map pass_in) r.1) ∙ f))
-
-    -- none stopped at a worn clock
-    pub stops-well : TellsLocks Lock → locks.carried ≡ clock locks.objects → (held : ObjectsValue) (left : AreClosed locks lock clock (map pass_in returned) held) → locks.streams ≡ W.streams → All (λ (s : Stop). s ≢ stop.Worn) (map stop_in returned)
-    stops-well tells same held left count = all-from (λ (s : Stop). s ≢ stop.Worn) (map stop_in returned) (λ s why f. (
-        let b = mapped s why f in let o = back-is s b.0 b.1 in
-        λ worn. unworn (IsOf own) locks lock clock tells same Z n streams flags is count returned returned-many came held left s o.0 o.1 (met (came s o.0 o.1).back (came s o.0 o.1).stops (ap stop_in o.2 ∙ (b.2 ∙ worn))))) where
-          met : (back : Returned Pass) → StopsBy locks lock back.stream back.pass back.stop → back.stop ≡ stop.Worn → IsWorn locks lock back.stream back.pass
-          met back stops e = subst (StopsBy locks lock back.stream back.pass) e stops
-
-          mapped : (s : ℕ) (why : Stop) → slice_get (map stop_in returned) s ≡ Some why → (back : Returned Pass) × (slice_get returned s ≡ Some back) × (back.stop ≡ why)
-          mapped s why f =
-              let lt : s < length (map stop_in returned) = slice_get_within (map stop_in returned) s why f in
-              let m : length (map stop_in returned) ≡ length returned = length-map returned stop_in in
-              let r : (back : Returned Pass) × (slice_get returned s ≡ Some back) = within returned s (omega arith) in
-              (r.0, r.1, some-injective (sym (slice_get-map stop_in returned s ∙ ap (option_map stop_in) r.1) ∙ f))

@@ -1,5 +1,5 @@
 -- Fleets at the start, over a lock for each site, and at the end.
-use Rattle.std.proofs.Common.{◌≡◌, ℕ, ◌≤◌, inl, Bool, List, Some, refl, sym, subst, arith}
+use Rattle.std.proofs.Common.{◌≡◌, ℕ, ◌<◌, ◌≤◌, inl, inr, Bool, List, None, Some, slice_get, refl, sym, ◌∙◌, subst, arith}
 use Rattle.std.specs.Prelude.{All}
 use Rattle.abt_machine.specs.declared.events.Event.{Event}
 use Rattle.abt_machine.specs.declared.events.Outcome.{Outcome}
@@ -26,22 +26,25 @@ use Rattle.abt_stream.specs.declared.stream.StreamParts.{StreamParts}
 use Rattle.abt_stream.specs.Streams.{StreamValue}
 use Rattle.abt_drain.specs.declared.run.Run.{Run}
 use Rattle.abt_drain.specs.declared.streams.Rests.{Rests}
-use Rattle.abt_drain.specs.Crews.{AllKeep, AreStarted, CrewValue, IsCrew, moment_of}
+use Rattle.abt_drain.specs.Crews.{AllKeep, AreStarted, CrewValue, IsCrew, moment_in, moment_of}
 use Rattle.abt_drain.specs.Ends.{AreLeft, HaveLeft, LeavesRotation, LeavesRun, logs_in}
 use Rattle.abt_drain.specs.Looks.{EndedWith}
-use Rattle.abt_drain.specs.Moments.{made_at}
+use Rattle.abt_drain.specs.Moments.{Moment, made_at}
 use Rattle.abt_drain.specs.Pictures.{ShowsUnits}
+use Rattle.abt_drain.specs.Rotations.{work_at}
 use Rattle.abt_drain.specs.Runs.{HasRun, IsRunOf}
 use Rattle.abt_drain.proofs.Closing.{come-logs, come-merges, come-picture}
 use Rattle.abt_drain.proofs.Coming.{come-ran}
 use Rattle.abt_drain.proofs.Journals.{come-lamport, has-come}
 use Rattle.abt_drain.proofs.Started.{are-streams, is-start}
-use Rattle.abt_drain.proofs.Starting.{start-come}
-use Rattle.abt_drain.proofs.Stopping.{looks-at}
+use Rattle.abt_drain.proofs.Starting.{start-come, start-fresh}
+use Rattle.abt_drain.proofs.Stopping.{looks-at, made-same}
 use Rattle.abt_waves.specs.Ends.{LeavesWaves}
 use Rattle.abt_waves.specs.Fleets.{IsFleet, IsFleetOver, MakesWave, MakesWaveOver, moment_over}
+use Rattle.abt_waves.specs.Leaving.{BeginsRounds, HasLeft, Lowers}
 use Rattle.abt_waves.specs.Locks.{TellsSites}
 use Rattle.abt_waves.specs.Waves.{HasEnded, IsFleetOf}
+use Rattle.abt_waves.proofs.Falling.{wave-lowers}
 
 -- the fleet as a value
 abbrev pub fleet_of : Parts → ℕ → Bool → ObjectsValue → List StreamValue → CrewValue
@@ -155,6 +158,7 @@ module _ {Lock : Type 0} (lock : Site → Lock) (clock : ObjectsValue → Lock �
         times = λ apart x. sym (begins (lock x));
       };
     };
+    fresh = start-fresh W (moment_of W streams objects) (is-start W n streams objects started placed);
   }
 
   -- its own workload and number of steps are those that it is of
@@ -170,6 +174,43 @@ module _ {Lock : Type 0} (lock : Site → Lock) (clock : ObjectsValue → Lock �
     fleet_is = is;
     looks = looks-at W n fleet.streams fleet.objects o (own-fleet (λ V k. EndedWith V k fleet.streams fleet.objects (Some o)) W Z n fleet is ended);
   }
+
+  -- a wave after which all streams have left it
+  module _ (W : Parts) (Z : Stored) (n : ℕ) (objects held : ObjectsValue) (streams out : List StreamValue) (fresh : BeginsRounds W (moment_of W streams objects))
+      (all : (s : ℕ) → s < W.streams → HasLeft W n (moment_of W streams objects) (moment_of W out held) s) where
+    -- leaves no round under way
+    pub fresh-after : BeginsRounds W (moment_of W out held)
+    fresh-after s lt = (all s lt).fresh
+
+    -- and less to do, unless nothing is left to do or a stream is spent
+    pub lowers-after : IsFleetOver lock clock W Z n objects streams → IsFleetOver lock clock W Z n held out → (live : List Bool) → MakesWaveOver lock clock W Z live (moment_over lock clock W streams objects) (moment_over lock clock W out held) →
+        Lowers W n (moment_of W streams objects) (moment_of W out held)
+    lowers-after is later live made = wave-lowers W Z is.valid is.stored n (moment_over lock clock W streams objects) (moment_over lock clock W out held)
+        (record {
+          deeds = is.come.deeds;
+          histories = is.come.histories;
+          gathered = is.come.gathered;
+          no_gap = is.come.no_gap;
+          logs = is.come.logs;
+          clocks = is.come.clocks;
+          few = is.come.few;
+          within = is.come.within;
+        })
+        later.come.within live made.wave fresh
+        (λ s lt. record {
+          fresh = (all s lt).fresh;
+          why = elim (all s lt).why [
+            | inl ended ↦ inl (record { before = ended.before; last = ended.last; log = ended.log; miss = ended.miss; empty = ended.empty })
+            | inr spent ↦ inr spent
+          ];
+        })
+
+  -- if the fleet goes on, a wave has lowered what is left
+  pub goes-on-less : (W : Parts) (Z : Stored) (n : ℕ) (fleet : CrewValue) (is : IsFleetOf lock clock W Z n fleet) (old : Moment) → Lowers W n old (moment_in W fleet) → EndedWith fleet.workload fleet.steps fleet.streams fleet.objects None →
+      work_at W n (moment_in W fleet) < work_at W n old
+  goes-on-less W Z n fleet is old lowers goes =
+      let own : EndedWith W n fleet.streams fleet.objects None = own-fleet (λ V k. EndedWith V k fleet.streams fleet.objects None) W Z n fleet is goes in
+      lowers own.busy (λ s spent. own.steps s (spent.0, made-same (slice_get fleet.streams s) ∙ spent.1, spent.2))
 
   module _ (W : Parts) (Z : Stored) (n : ℕ) (fleet : CrewValue) (is : IsFleetOf lock clock W Z n fleet) where
     -- the logs of its streams are logs

@@ -1,5 +1,6 @@
 -- A turn of one stream in a wave.
-use Rattle.std.proofs.Common.{◌≡◌, ℕ, ◌<◌, ◌≤◌, ◌+◌, inl, inr, List, [], ◌∷◌, ◌++◌, map, length, Option, Some, None, refl, sym, ◌∙◌, ap, subst, arith}
+use Rattle.std.proofs.Common.{◌≡◌, ℕ, suc, ◌<◌, ◌≤◌, ◌+◌, ◌==◌, inl, inr, true, false, List, [], ◌∷◌, ◌++◌, map, length, Option, Some, None, refl, sym, ◌∙◌, ap, subst, arith}
+use Rattle.std.proofs.lemmas.Bool.{cond-true, eq-eqb}
 use Rattle.std.proofs.lemmas.List.{append-nil, append_assoc, length-append, map-append}
 use Rattle.abt_machine.specs.declared.events.Site.{Site}
 use Rattle.abt_machine.specs.declared.events.What.{What}
@@ -9,6 +10,10 @@ use Rattle.abt_machine.specs.declared.numbers.StreamNo.{StreamNo}
 use Rattle.abt_machine.specs.Stored.{Stored}
 use Rattle.abt_machine.specs.declared.workload.Parts.{Parts}
 use Rattle.abt_machine.specs.Acts.{Act}
+use Rattle.abt_machine.specs.declared.events.Event.{Event}
+use Rattle.abt_machine.specs.Frames.{frame_at, frame_missed}
+use Rattle.abt_machine.specs.State.{Frame}
+use Rattle.abt_machine.specs.Workloads.{pools_of}
 use Rattle.abt_machine.specs.Turns.{Heard, Steps}
 use Rattle.abt_interleave.specs.Histories.{Extends}
 use Rattle.abt_interleave.specs.Lines.{Sees}
@@ -19,10 +24,11 @@ use Rattle.abt_order.specs.Schedulers.{SchedulerValue}
 use Rattle.abt_commons.specs.Replies.{Told}
 use Rattle.abt_stream.specs.Heeding.{Heeds}
 use Rattle.abt_stream.specs.Streams.{Rooms, StreamValue}
-use Rattle.abt_stream.specs.Turned.{IsPrepared, Made, MetEnd, Turned, Went}
+use Rattle.abt_stream.specs.Turned.{IsPrepared, IsSpent, Made, MetEnd, MissesLast, Turned, Went}
 use Rattle.abt_stream.specs.declared.turns.Turn.{Turn}
 use Rattle.abt_stream.specs.declared.turns.Turn.TheVariants as turn
 use Rattle.abt_waves.specs.Locks.{HasSeenNothing, LocksValue, Moves}
+use Rattle.abt_waves.specs.Stops.{EndsRoundSince, TurnEnds}
 use Rattle.abt_waves.specs.Voyages.{HasGone, IsWorn}
 use Rattle.abt_interleave.proofs.Carried.{last-append}
 
@@ -98,11 +104,30 @@ module _ {Lock Pass : Type 0} (locks : LocksValue Lock Pass) (lock : Site → Lo
     turned-gone turn.Worn h number budget keeps = met-gone h.0 h.1
 
   module _ (old : StreamValue) (before : Pass) (new : StreamValue) (after : Pass) where
-    -- a turn that met a worn clock
-    pub turned-worn : (t : Turn) → t ≡ turn.Worn → Turned Heeded W Z old before t new after → IsWorn locks lock new after
-    turned-worn t e turned = worn (subst (λ u. Turned Heeded W Z old before u new after) e turned) where
-      worn : Turned Heeded W Z old before turn.Worn new after → IsWorn locks lock new after
-      worn h = subst (λ s. IsWorn locks lock s after) (sym h.0) (elim h.1 [ inl own ↦ inl own.1 | inr call ↦ inr (call.0, (call.3.0 Z).worn) ])
+    -- a miss of the last pool of a round ends it empty, and begins the next
+    frame-ends : (f : Frame) (p : ℕ) → suc (length f.seen) ≡ length (pools_of W f.sched) → frame_missed W f p ≡ frame_at f.sched (suc f.round) true
+    frame-ends f p e = cond-true (length (pools_of W f.sched) == suc (length f.seen)) (frame_at f.sched (suc f.round) true) (record { sched = f.sched; round = f.round; seen = f.seen ++ p ∷ []; empty = false })
+        (eq-eqb (length (pools_of W f.sched)) (suc (length f.seen)) (sym e))
+
+    round-ends : (p : PoolNo) → Made Heeded W Z old before (what.Miss p) new after → MissesLast W old → EndsRoundSince old.log new
+    round-ends p made last =
+        let top : new.held.own.top ≡ frame_at old.held.own.top.sched (suc old.held.own.top.round) true = ap (λ h. h.own.top) made.steps.3 ∙ frame-ends old.held.own.top p.0 last in
+        record {
+          before = [];
+          last = record { stamp = new.clock; stream = old.number; what = what.Miss p };
+          log_is = made.log;
+          miss = tt;
+          empty = ap (λ f. f.empty) top;
+          fresh = ap (λ f. f.seen) top;
+        }
+
+    -- what a turn says of why the stream may leave after it
+    pub turned-ends : (t : Turn) → Turned Heeded W Z old before t new after → TurnEnds locks lock W old.log new after t
+    turned-ends turn.Stepped h = tt
+    turned-ends turn.EmptyRound h = round-ends h.0 h.1 h.2
+    turned-ends turn.Moved h = tt
+    turned-ends turn.Spent h = subst (IsSpent W) (sym h.1) h.0
+    turned-ends turn.Worn h = subst (λ s. IsWorn locks lock s after) (sym h.0) (elim h.1 [ inl own ↦ inl own.1 | inr call ↦ inr (call.0, (call.3.0 Z).worn) ])
 
     module _ (n : ℕ) (short : length old.log < n) where
       grown : (w : What) → Made Heeded W Z old before w new after → length new.log ≤ n
@@ -142,4 +167,16 @@ module _ {Lock Pass : Type 0} (locks : LocksValue Lock Pass) (lock : Site → Lo
     number = refl;
     budget = refl;
     keeps = refl;
+  }
+
+  -- a round that ended empty since a turn did so since the wave began
+  pub ends-since : (first old stream : StreamValue) (pass : Pass) → HasGone locks lock W Z first old pass → EndsRoundSince old.log stream → EndsRoundSince first.log stream
+  ends-since first old stream pass gone ends = record {
+    before = map event_of gone.deeds ++ ends.before;
+    last = ends.last;
+    log_is = ends.log_is ∙ (ap (λ log. log ++ (ends.before ++ ends.last ∷ [])) gone.log
+        ∙ (append_assoc first.log (map event_of gone.deeds) (ends.before ++ ends.last ∷ []) ∙ ap (λ es. first.log ++ es) (sym (append_assoc (map event_of gone.deeds) ends.before (ends.last ∷ [])))));
+    miss = ends.miss;
+    empty = ends.empty;
+    fresh = ends.fresh;
   }

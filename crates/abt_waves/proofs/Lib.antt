@@ -1,8 +1,11 @@
 pub mod Crosses
 pub mod Departing
+pub mod Emptying
+pub mod Falling
 pub mod Fleets
 pub mod Going
 pub mod Lasts
+pub mod OneWave
 pub mod Rejoining
 pub mod Staying
 pub mod Waving

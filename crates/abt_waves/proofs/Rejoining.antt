@@ -1,5 +1,5 @@
 -- A wave more: what it makes of the moment before, and that what it leaves is a moment to which the streams have come.
-use Rattle.std.proofs.Common.{◌≡◌, ℕ, max, ◌<◌, ◌≤◌, ◌^◌, inl, inr, Bool, false, List, [], ◌∷◌, ◌++◌, map, length, slice_get, Option, Some, None, refl, sym, ◌∙◌, ap, subst, arith}
+use Rattle.std.proofs.Common.{◌≡◌, ◌≢◌, ℕ, max, ◌<◌, ◌≤◌, ◌^◌, inl, inr, Bool, true, false, List, [], ◌∷◌, ◌++◌, map, length, slice_get, Option, Some, None, refl, sym, ◌∙◌, ap, subst, arith}
 use Rattle.std.specs.Prelude.{option_map}
 use Rattle.std.proofs.lemmas.List.{append-nil, length-append, length-map, map-append}
 use Rattle.std.proofs.lemmas.Option.{slice_get-map, slice_get_cases, slice_get_past, slice_get_within}
@@ -8,7 +8,9 @@ use Rattle.abt_machine.specs.declared.numbers.StreamNo.{StreamNo}
 use Rattle.abt_machine.specs.Stored.{Stored}
 use Rattle.abt_machine.specs.declared.workload.Parts.{Parts}
 use Rattle.abt_machine.specs.Outcomes.{steps_in}
+use Rattle.abt_machine.specs.Next.{StepDue}
 use Rattle.abt_machine.specs.Start.{start}
+use Rattle.abt_machine.specs.Turns.{due_of}
 use Rattle.abt_machine.specs.Values.{Held, object_of, part_of}
 use Rattle.abt_calls.specs.Starts.{start_part}
 use Rattle.abt_interleave.specs.Carrying.{Timed, Waves, joined_histories, joined_logs, next_clocks, stream_clocks}
@@ -28,26 +30,34 @@ use Rattle.abt_commons.specs.Held.{ObjectsValue}
 use Rattle.abt_commons.specs.Sights.{SiteCall}
 use Rattle.abt_laws.proofs.Options.{some-injective}
 use Rattle.abt_stream.specs.Streams.{FitsShapes, StreamValue}
+use Rattle.abt_stream.specs.Turned.{IsSpent}
 use Rattle.abt_drain.specs.Crews.{AllKeep, stream_clock, log_from, moment_of}
 use Rattle.abt_drain.specs.Looks.{AreStreams, IsStreamOf, held_from}
 use Rattle.abt_drain.specs.Moments.{HasCome, Moment, made_at}
+use Rattle.abt_drain.specs.Rotations.{IsSpentIn}
 use Rattle.abt_drain.proofs.Coming.{come-clock-low, come-stream-unworn}
 use Rattle.abt_waves.specs.declared.voyages.Returned.{Returned}
+use Rattle.abt_waves.specs.declared.voyages.Stop.{Stop}
+use Rattle.abt_waves.specs.declared.voyages.Stop.TheVariants as stop
 use Rattle.abt_waves.specs.Fleets.{HaveClocks, IsFleetOver, IsWave, MakesWaveOver, moment_over}
 use Rattle.abt_waves.specs.Locks.{AreClosed, LocksValue, TellsSites, sights_from}
-use Rattle.abt_waves.specs.Stops.{StopsBy}
+use Rattle.abt_waves.specs.Leaving.{HasLeft}
+use Rattle.abt_waves.specs.Stops.{EndsRoundSince, StopsBy}
 use Rattle.abt_waves.specs.Voyages.{HasGone, HasPass, IsWorn}
 use Rattle.abt_waves.specs.Waves.{pass_in, stream_in}
 use Rattle.abt_interleave.proofs.Carried.{last-append}
+use Rattle.abt_waves.proofs.Falling.{spent-fresh}
 use Rattle.abt_waves.proofs.Lasts.{max-low, prefix-low}
 
 -- what came back of a stream
 pub record Came {Lock Pass : Type 0} (IsOf : Pass → Type 0) (locks : LocksValue Lock Pass) (lock : Site → Lock) (Z : Stored) (live : List Bool) (returned : List (Returned Pass)) (s : ℕ) (stream : StreamValue) : Type 0 where
   pub back : Returned Pass
   pub at : slice_get returned s ≡ Some back
+  pub flag : Bool
+  pub marked : slice_get live s ≡ Some flag
   pub has : HasPass IsOf locks locks.objects.workload Z back.stream back.pass
   pub gone : HasGone locks lock locks.objects.workload Z stream back.stream back.pass
-  pub stops : StopsBy locks lock back.stream back.pass back.stop
+  pub stops : StopsBy locks lock locks.objects.workload flag stream.log back.stream back.pass back.stop
   pub still : slice_get live s ≡ Some false → back.stream ≡ stream
 
 -- if a list did not grow, nothing was put behind it
@@ -278,7 +288,7 @@ module _ {Lock Pass : Type 0} (IsOf : Pass → Type 0) (locks : LocksValue Lock 
     stays s dead = stays-by s (slice_get streams s) refl dead
 
     -- no clock that the wave has met is at its end
-    pub unworn : (s : ℕ) (stream : StreamValue) (e : slice_get streams s ≡ Some stream) → IsWorn locks lock (came s stream e).back.stream (came s stream e).back.pass → ⊥
+    unworn : (s : ℕ) (stream : StreamValue) (e : slice_get streams s ≡ Some stream) → IsWorn locks lock (came s stream e).back.stream (came s stream e).back.pass → ⊥
     unworn s stream e worn = elim worn [
       | inl own ↦ (let low = own-low in omega arith)
       | inr met ↦ (let low = max-low (max (came s stream e).back.stream.clock (locks.carried (lock met.0))) (last_stamp (entry_stamps (locks.sights (came s stream e).back.pass (lock met.0)))) (2 ^ 62)
@@ -304,3 +314,53 @@ module _ {Lock Pass : Type 0} (IsOf : Pass → Type 0) (locks : LocksValue Lock 
           let next : clock held l ≡ max (locks.carried l) (left.closing l) = left.clocks l in
           let end : clock held l < 2 ^ 62 = come-clock-low W Z is.valid is.stored n now come-after (clock held l) (have-after.clocks l) in
           omega arith
+
+    -- Why streams left.
+
+    module _ (s : ℕ) (stream : StreamValue) (e : slice_get streams s ≡ Some stream) where
+      abbrev back : StreamValue
+      back = (came s stream e).back.stream
+
+      part-back : now.parts s ≡ back.held
+      part-back = ap (held_from (start_part W s)) (stream-back s stream e)
+
+      log-back : now.logs s ≡ back.log
+      log-back = ap log_from (stream-back s stream e)
+
+      ended-round : EndsRoundSince stream.log back → HasLeft W n was now s
+      ended-round ends = record {
+        fresh = ap (λ h. h.own.top.seen) part-back ∙ ends.fresh;
+        why = inl (record {
+          before = ends.before;
+          last = ends.last;
+          log = log-back ∙ (ends.log_is ∙ ap (λ log. log ++ (ends.before ++ ends.last ∷ [])) (sym (ap log_from e)));
+          miss = ends.miss;
+          empty = ap (λ h. h.own.top.empty) part-back ∙ ends.empty;
+        });
+      }
+
+      is-spent : IsSpent W back → IsSpentIn W n now s
+      is-spent spent = (
+        (let lt = slice_get_within streams s stream e in let m : length streams ≡ W.streams = is.streams_are.many in omega arith),
+        ap steps_in log-back ∙ (spent.1 ∙ ((came s stream e).gone.budget ∙ (is.streams_are.own s stream e).budget)),
+        ap (due_of W s) part-back ∙ subst (λ k. due_of W k back.held ≡ StepDue) (ap (λ (k : StreamNo). k.0) (came s stream e).gone.number ∙ numbered s stream e) spent.0,
+      )
+
+      spent-left : IsSpentIn W n now s → HasLeft W n was now s
+      spent-left spent = record { fresh = spent-fresh W Z is.valid is.stored n now come-after s spent; why = inr spent }
+
+      left-by : (why : Stop) → why ≢ stop.Refused → (came s stream e).flag ≡ true → StopsBy locks lock W (came s stream e).flag stream.log back (came s stream e).back.pass why → HasLeft W n was now s
+      left-by stop.Idle kept lives ends = ended-round (ends lives)
+      left-by stop.Spent kept lives spent = spent-left (is-spent spent)
+      left-by stop.Refused kept lives stops = absurd (kept refl)
+      left-by stop.Worn kept lives worn = absurd (unworn s stream e worn)
+
+    left-at : (s : ℕ) (o : Option StreamValue) → slice_get streams s ≡ o → ((back : Returned Pass) → slice_get returned s ≡ Some back → back.stop ≢ stop.Refused) → slice_get live s ≡ Some true → length live ≡ W.streams → HasLeft W n was now s
+    left-at s None e kept lives marked = absurd (declared s e (let lt = slice_get_within live s true lives in omega (arith, marked)))
+    left-at s (Some stream) e kept lives marked =
+        let c = came s stream e in
+        left-by s stream e c.back.stop (kept c.back c.at) (some-injective (sym c.marked ∙ lives)) c.stops
+
+    -- a live stream has left, if none is out of memory
+    pub has-left : (s : ℕ) → ((back : Returned Pass) → slice_get returned s ≡ Some back → back.stop ≢ stop.Refused) → slice_get live s ≡ Some true → length live ≡ W.streams → HasLeft W n was now s
+    has-left s = left-at s (slice_get streams s) refl

@@ -1,7 +1,8 @@
 -- A wave, from the objects that locks are made round to those that the opened locks leave.
-use Rattle.std.proofs.Common.{◌≡◌, ◌≢◌, ℕ, ◌<◌, Bool, false, List, map, length, slice_get, Some, sym, ◌∙◌, ap, subst}
-use Rattle.std.specs.Prelude.{slice_index_or}
+use Rattle.std.proofs.Common.{◌≡◌, ◌≢◌, ℕ, ◌<◌, Bool, true, false, List, map, length, slice_get, Some, sym, ◌∙◌, ap, subst}
+use Rattle.std.specs.Prelude.{option_map, slice_index_or}
 use Rattle.std.specs.List.{All}
+use Rattle.std.proofs.lemmas.Option.{slice_get-map}
 use Rattle.abt_machine.specs.declared.events.Site.{Site}
 use Rattle.abt_machine.specs.Stored.{Stored}
 use Rattle.abt_machine.specs.declared.workload.Parts.{Parts}
@@ -10,16 +11,17 @@ use Rattle.abt_interleave.specs.Weaving.{TellsLocks}
 use Rattle.abt_commons.specs.AllPasses.{AreAll}
 use Rattle.abt_commons.specs.Held.{ObjectsValue}
 use Rattle.abt_stream.specs.Streams.{StreamValue}
-use Rattle.abt_drain.specs.Crews.{AllKeep}
+use Rattle.abt_drain.specs.Crews.{AllKeep, moment_of}
 use Rattle.abt_waves.specs.declared.voyages.Returned.{Returned}
 use Rattle.abt_waves.specs.declared.voyages.Stop.{Stop}
 use Rattle.abt_waves.specs.declared.voyages.Stop.TheVariants as stop
 use Rattle.abt_waves.specs.Fleets.{IsFleetOver, MakesWaveOver, moment_over}
 use Rattle.abt_waves.specs.Jobs.{HasReturned, JobValue, MayGo, jobs_of}
+use Rattle.abt_waves.specs.Leaving.{HasLeft}
 use Rattle.abt_waves.specs.Locks.{AreClosed, HasSeenNothing, LocksValue}
 use Rattle.abt_waves.specs.Waves.{pass_in, stop_in, stream_in}
-use Rattle.abt_waves.proofs.Departing.{came, may-go, passes-back, passes-many, returned-many, stops-well}
-use Rattle.abt_waves.proofs.Rejoining.{Came, keep-after, makes-wave, rejoined, stays}
+use Rattle.abt_waves.proofs.Departing.{all-at, came, may-go, passes-back, passes-many, returned-many}
+use Rattle.abt_waves.proofs.Rejoining.{Came, has-left, keep-after, makes-wave, rejoined, stays}
 
 module _ {Locks Lock Pass : Type 0} (IsOf : Locks → Pass → Type 0) (value : Locks → LocksValue Lock Pass) (lock : Site → Lock) (clock : ObjectsValue → Lock → ℕ) (tells : TellsLocks Lock)
     (W : Parts) (Z : Stored) (n : ℕ) (objects : ObjectsValue) (streams : List StreamValue) (is : IsFleetOver lock clock W Z n objects streams)
@@ -90,10 +92,6 @@ module _ {Locks Lock Pass : Type 0} (IsOf : Locks → Pass → Type 0) (value : 
             all-came : (s : ℕ) (stream : StreamValue) → slice_get streams s ≡ Some stream → Came (IsOf own) locks lock Z flags returned s stream
             all-came = came IsOf value lock clock own Z n streams opened passes all-own flags marked-own returned many-own each-own
 
-            pub all-stop-well : (stops : List Stop) → stops ≡ map stop_in returned → All (λ (s : Stop). s ≢ stop.Worn) stops
-            all-stop-well stops are = subst (All (λ (s : Stop). s ≢ stop.Worn)) (sym are)
-                (stops-well IsOf value lock clock own Z n streams opened passes all-own flags marked-own returned many-own each-own tells same-clocks held left-own count-own)
-
             module _ (out : List StreamValue) (out_are : out ≡ map stream_in returned) where
               pub next-fleet : IsFleetOver lock clock W Z n held out
               next-fleet = subst (λ (q : Parts × List StreamValue). IsFleetOver lock clock q.0 Z n held q.1) (λ i. (same-workload i, sym out_are i))
@@ -102,6 +100,13 @@ module _ {Locks Lock Pass : Type 0} (IsOf : Locks → Pass → Type 0) (value : 
               pub wave-made : MakesWaveOver lock clock W Z flags (moment_over lock clock W streams objects) (moment_over lock clock W out held)
               wave-made = subst (λ (q : Parts × ObjectsValue × List StreamValue). MakesWaveOver lock clock q.0 Z flags (moment_over lock clock q.0 streams q.1) (moment_over lock clock q.0 q.2 held)) (λ i. (same-workload i, opening i, sym out_are i))
                   (makes-wave (IsOf own) locks lock clock tells same-clocks Z n streams flags opened count-own returned back-many all-came held left-own)
+
+              -- each live stream has left, if none is out of memory
+              pub all-left : (stops : List Stop) → stops ≡ map stop_in returned → All (λ (w : Stop). w ≢ stop.Refused) stops → (s : ℕ) → slice_get flags s ≡ Some true → HasLeft W n (moment_of W streams objects) (moment_of W out held) s
+              all-left stops are all s lives = subst (λ (q : Parts × ObjectsValue × List StreamValue). HasLeft q.0 n (moment_of q.0 streams q.1) (moment_of q.0 q.2 held) s) (λ i. (same-workload i, opening i, sym out_are i))
+                  (has-left (IsOf own) locks lock clock tells same-clocks Z n streams flags opened count-own returned back-many all-came held left-own s
+                  (λ back at. all-at (λ (w : Stop). w ≢ stop.Refused) (map stop_in returned) (subst (All (λ (w : Stop). w ≢ stop.Refused)) are all) s back.stop (slice_get-map stop_in returned s ∙ ap (option_map stop_in) at))
+                  lives marked-own)
 
               pub others-stay : (s : ℕ) → slice_get flags s ≡ Some false → slice_get out s ≡ slice_get streams s
               others-stay s dead = ap (λ ss. slice_get ss s) out_are ∙ stays (IsOf own) locks lock clock tells same-clocks Z n streams flags opened count-own returned back-many all-came held left-own s dead

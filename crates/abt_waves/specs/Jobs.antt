@@ -34,5 +34,5 @@ module _ {Locks Lock Pass : Type 0} (IsOf : Locks → Pass → Type 0) (value : 
   pub record HasReturned (lock : Site → Lock) (W : Parts) (Z : Stored) (job : JobValue Locks Pass) (back : Returned Pass) : Type 0 where
     pub has : HasPass (IsOf job.locks) (value job.locks) W Z back.stream back.pass
     pub gone : HasGone (value job.locks) lock W Z job.stream back.stream back.pass
-    pub stops : StopsBy (value job.locks) lock back.stream back.pass back.stop
+    pub stops : StopsBy (value job.locks) lock W job.live job.stream.log back.stream back.pass back.stop
     pub still : job.live ≡ false → back.stream ≡ job.stream

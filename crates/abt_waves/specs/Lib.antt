@@ -1,6 +1,7 @@
 pub mod Ends
 pub mod Fleets
 pub mod Jobs
+pub mod Leaving
 pub mod Locks
 pub mod SplitLocks
 pub mod Staying

@@ -12,6 +12,7 @@ use Rattle.abt_drain.specs.Moments.{made_at}
 use Rattle.abt_waves.specs.declared.voyages.Returned.{Returned}
 use Rattle.abt_waves.specs.declared.voyages.Stop.{Stop}
 use Rattle.abt_waves.specs.Fleets.{IsFleetOver}
+use Rattle.abt_waves.specs.Leaving.{BeginsRounds}
 
 module _ {Pass : Type 0} where
   abbrev pub stream_in : Returned Pass → StreamValue
@@ -29,12 +30,13 @@ module _ {Pass : Type 0} where
     pub passes_are : passes ≡ map pass_in returned
     pub stops_are : stops ≡ map stop_in returned
 
--- these are streams of W, which may make n steps each, with the objects that they share over these locks
+-- these are streams of W, which may make n steps each, with the objects that they share over these locks, and no round has seen a pool
 pub record IsFleetOf {Lock : Type 0} (lock : Site → Lock) (clock : ObjectsValue → Lock → ℕ) (W : Parts) (Z : Stored) (n : ℕ) (fleet : CrewValue) : Type 0 where
   pub workload : fleet.workload ≡ W
   pub steps : fleet.steps ≡ n
   pub kept : AllKeep fleet.keeps fleet.streams
   pub fleet_is : IsFleetOver lock clock W Z n fleet.objects fleet.streams
+  pub fresh : BeginsRounds W (moment_of W fleet.streams fleet.objects)
 
 -- the last wave ended the run so
 pub record HasEnded {Lock : Type 0} (lock : Site → Lock) (clock : ObjectsValue → Lock → ℕ) (W : Parts) (Z : Stored) (n : ℕ) (fleet : CrewValue) (o : Outcome) : Type 0 where

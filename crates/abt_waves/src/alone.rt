@@ -1,13 +1,13 @@
 //! What a stream does while no other one has anything to do.
 
-ghost use Rattle.std.specs.Prelude.{◌≡◌, ◌<◌, ◌≤◌, ◌^◌, IfOk, IfSome, OnOk, length};
+ghost use Rattle.std.specs.Prelude.{◌≡◌, ◌<◌, ◌≤◌, ◌^◌, IfOk, IfSome, OnOk, length, true};
 ghost use Rattle.abt_machine.specs.Outcomes.{steps_in};
 ghost use Rattle.abt_machine.specs.Rounds.{OrdersStored};
 ghost use Rattle.abt_machine.specs.Stored.{CallsStored};
 ghost use Rattle.abt_order.specs.Stored.{shapes_of, stored_of};
 ghost use Rattle.abt_stream.specs.Streams.{FitsShapes, FitsStream};
 ghost use Rattle.abt_drain.specs.Crews.{TurnsBy};
-ghost use Rattle.abt_waves.specs.Staying.{StaysCrew};
+ghost use Rattle.abt_waves.specs.Staying.{BeginsAnew, MayEnd, StaysCrew};
 
 use crate::listing::{Listing, bit};
 use crate::puts::{Puts, noted_turn};
@@ -78,7 +78,8 @@ pub(crate) fn go_alone<'w, R: Wait, P: Work>(
     requires objects { objects.workload ≡ w.now }
     requires fits { FitsStream w.now stream.old }
     requires shapes { FitsShapes w.now (stored_of orders.now (P.returns work.now)) stream.old }
-    ensures { IfOk result (λ left. StaysCrew w.now (stored_of orders.now (P.returns work.now)) stream.old objects.entry stream.new left) }
+    ensures stays { IfOk result (λ left. StaysCrew w.now (stored_of orders.now (P.returns work.now)) stream.old objects.entry stream.new left) }
+    ensures fresh { OnOk result (BeginsAnew w.now (stored_of orders.now (P.returns work.now)) stream.old objects.entry stream.new) }
 {
     let listing = Listing::new(alloc, w)?;
     let (plain, mut pass) = Plain::make(objects);
@@ -124,11 +125,13 @@ fn turns<'w, R: Wait, P: Work>(
     requires shapes { FitsShapes w.now (stored_of orders.now (P.returns work.now)) stream.old }
     ensures stays { OnOk result (StaysCrew w.now (stored_of orders.now (P.returns work.now)) stream.old pass.old stream.new pass.new) }
     ensures pass { OnOk result (pass.new.workload ≡ w.now) }
+    ensures fresh { OnOk result (BeginsAnew w.now (stored_of orders.now (P.returns work.now)) stream.old pass.old stream.new) }
 {
     let puts = Puts::new();
     'turns: for _ in rt.forever() {
+        let putting = stream.puts();
         let turn = advance(rt, w, orders, work, &puts, plain, pass, stream)?;
-        if stops(turn, stream, listing, bit, &puts) {
+        if stops(turn, putting, stream, listing, bit, &puts) {
             return Ok(());
         }
     }
@@ -136,15 +139,24 @@ fn turns<'w, R: Wait, P: Work>(
 }
 
 // Whether the stream of this bit stops after this turn: it finds nothing, may make no other turn, or has put a unit into a pool that
-// another stream lists.
+// another stream lists. `putting` says whether a unit was in its tray.
 #[inline(always)]
-fn stops(turn: Turn, stream: &Stream, listing: &Listing, bit: u64, puts: &Puts) -> bool {
+fn stops(
+    turn: Turn,
+    putting: bool,
+    stream: &Stream,
+    listing: &Listing,
+    bit: u64,
+    puts: &Puts,
+) -> bool
+    ensures { result ≡ true → MayEnd putting turn }
+{
     match turn {
         Turn::Spent | Turn::Worn => true,
         Turn::EmptyRound => stream.is_idle(),
         Turn::Stepped => false,
         Turn::Moved => match puts.take() {
-            Some(p) => listing.of(p) & !bit != 0,
+            Some(p) => putting && listing.of(p) & !bit != 0,
             None => false,
         },
     }

@@ -1,13 +1,16 @@
 //! All streams of a workload, and the objects that they share, between waves.
 
-ghost use Rattle.std.specs.Prelude.{◌≡◌, ◌≤◌, ℕ, IfOk, List, Option, length};
+ghost use Rattle.std.specs.Prelude.{◌≡◌, ◌≤◌, ℕ, IfOk, List, Option, length, replicate, true};
 ghost use Rattle.abt_machine.specs.declared.events.Outcome.{Outcome};
 ghost use Rattle.abt_machine.specs.Stored.{CallsStored, Stored};
 ghost use Rattle.abt_order.specs.Stored.{stored_of};
 ghost use Rattle.abt_commons.specs.Held.{clock_at};
 ghost use Rattle.abt_commons.specs.Splits.{own_lock};
+ghost use Rattle.abt_drain.specs.Crews.{moment_in};
 ghost use Rattle.abt_drain.specs.Looks.{AreStreams, EndedWith};
+ghost use Rattle.abt_drain.specs.Rotations.{work_at};
 ghost use Rattle.abt_waves.specs.Ends.{LeavesWaves};
+ghost use Rattle.abt_waves.specs.Leaving.{Lowers};
 ghost use Rattle.abt_waves.specs.Storing.{stored_by};
 ghost use Rattle.abt_waves.specs.Waves.{HasEnded, IsFleetOf};
 
@@ -88,8 +91,9 @@ impl<'w> Fleet<'w> {
     ) -> Result<Fleet<'w>, Want>
         requires calls { CallsStored self.workload (P.count work.now) }
         requires fleet { IsFleetOf L.lock L.clock self.workload (stored_by (O.shapes orders.now) (P.returns work.now)) self.steps self }
-        requires flags { length live.now ≡ self.workload.streams }
+        requires flags { live.now ≡ replicate self.workload.streams true }
         ensures fleet { IfOk result (IsFleetOf L.lock L.clock self.entry.workload (stored_by (O.shapes orders.now) (P.returns work.now)) self.entry.steps) }
+        ensures lowers { IfOk result (λ fleet. Lowers self.entry.workload self.entry.steps (moment_in self.entry.workload self.entry) (moment_in self.entry.workload fleet)) }
         ensures keeps { IfOk result (λ fleet. fleet.keeps ≡ self.entry.keeps) }
     {
         let Fleet {
@@ -123,6 +127,7 @@ impl<'w> Fleet<'w> {
         requires calls { CallsStored self.workload (P.count work.now) }
         requires fleet { IsFleetOf own_lock clock_at self.workload (stored_of orders.now (P.returns work.now)) self.steps self }
         ensures fleet { IfOk result (IsFleetOf own_lock clock_at self.entry.workload (stored_of orders.now (P.returns work.now)) self.entry.steps) }
+        ensures raises_none { IfOk result (λ fleet. work_at self.entry.workload self.entry.steps (moment_in self.entry.workload fleet) ≤ work_at self.entry.workload self.entry.steps (moment_in self.entry.workload self.entry)) }
         ensures keeps { IfOk result (λ fleet. fleet.keeps ≡ self.entry.keeps) }
     {
         let Fleet {
@@ -169,7 +174,7 @@ impl<'w> Fleet<'w> {
         outcome(self.w, &self.objects, &self.streams, self.steps)
     }
 
-    /// Waves, until one leaves nothing to do or a stream spent.
+    /// Waves, until one leaves nothing to do or a stream spent. Each of the others lowers the work that is left.
     pub(crate) fn run<
         R: Threads + Wait + Sync,
         P: Work + Sync,
@@ -185,18 +190,17 @@ impl<'w> Fleet<'w> {
         let live = vec![in alloc; true; self.w.streams() as usize]?;
         let starts = Starts::new();
         let mut fleet = self;
-        'waves: for _ in rt.forever() {
+        'waves: loop {
             fleet = fleet.wave::<R, P, O, X, L>(rt, alloc, orders, work, &live, &starts)?;
             match fleet.ended() {
                 Some(outcome) => return Ok((fleet, outcome)),
                 None => {}
             }
         }
-        unreachable!()
     }
 
     /// Waves of several streams over a lock for each site, until nothing is left to do or a stream is spent. While one stream alone has
-    /// anything to do, it makes its turns on the caller's thread.
+    /// anything to do, it makes its turns on the caller's thread. Each wave but the last lowers the work that is left.
     pub(crate) fn run_split<R: Threads + Wait + Sync, P: Work + Sync>(
         self,
         rt: &'w R,
@@ -213,7 +217,7 @@ impl<'w> Fleet<'w> {
         let live = vec![in alloc; true; self.w.streams() as usize]?;
         let starts = Starts::new();
         let mut fleet = self;
-        'waves: for _ in rt.forever() {
+        'waves: loop {
             fleet = fleet.alone(rt, alloc, orders, work)?;
             if let Some(outcome) = fleet.ended() {
                 return Ok((fleet, outcome));
@@ -226,8 +230,11 @@ impl<'w> Fleet<'w> {
                 &live,
                 &starts,
             )?;
+            match fleet.ended() {
+                Some(end) => return Ok((fleet, end)),
+                None => {}
+            }
         }
-        unreachable!()
     }
 
     /// What the run leaves, which ended so.

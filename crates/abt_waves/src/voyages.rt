@@ -1,14 +1,12 @@
 //! What one stream does in a wave.
 
-ghost use Rattle.std.specs.Prelude.{◌≡◌, IfOk, IfSome};
+ghost use Rattle.std.specs.Prelude.{◌≡◌, IfOk, IfSome, true};
 ghost use Rattle.abt_machine.specs.Rounds.{OrdersStored};
 ghost use Rattle.abt_machine.specs.Stored.{CallsStored};
 ghost use Rattle.abt_stream.specs.Streams.{StreamValue};
-ghost use Rattle.abt_stream.specs.declared.turns.Turn.TheVariants as turn;
-ghost use Rattle.abt_waves.specs.Voyages.{HasGone, HasPass, IsWorn};
-ghost use Rattle.abt_waves.specs.Stops.{StopsBy};
+ghost use Rattle.abt_waves.specs.Voyages.{HasGone, HasPass};
+ghost use Rattle.abt_waves.specs.Stops.{StopsBy, TurnEnds};
 ghost use Rattle.abt_waves.specs.Storing.{stored_by};
-ghost use Rattle.abt_waves.specs.declared.voyages.Stop.TheVariants as stops;
 ghost use Rattle.abt_waves.specs.Jobs.{HasReturned, MayGo};
 
 use crate::locks::{Locked, Orders};
@@ -39,7 +37,8 @@ impl<'a, C, X> Model for Job<'a, C, X> {
     ghost view = { λ job. record { locks = job.locks.now; stream = job.stream; pass = job.pass; live = job.live } };
 }
 
-/// Why a stream left a wave: it found nothing, it has made its steps, it is out of memory, or a clock is at its end.
+/// Why a stream left a wave: it found nothing or is not live, it has made its steps, it or another one is out of memory, or a clock is at
+/// its end.
 #[derive(Clone, Copy, Debug, PartialEq, Eq)]
 pub(crate) enum Stop {
     Idle,
@@ -116,7 +115,7 @@ fn turns<R: Threads + Wait, P: Work, O: Orders, C: Locked>(
     requires has { HasPass (C.is_of locks.now) (C.locks locks.now) w.now (stored_by (O.shapes orders.now) (P.returns work.now)) stream.old pass.old }
     ensures has { HasPass (C.is_of locks.now) (C.locks locks.now) w.now (stored_by (O.shapes orders.now) (P.returns work.now)) stream.new pass.new }
     ensures gone { (first : StreamValue) → HasGone (C.locks locks.now) C.lock w.now (stored_by (O.shapes orders.now) (P.returns work.now)) first stream.old pass.old → HasGone (C.locks locks.now) C.lock w.now (stored_by (O.shapes orders.now) (P.returns work.now)) first stream.new pass.new }
-    ensures worn { StopsBy (C.locks locks.now) C.lock stream.new pass.new result }
+    ensures stops { (first : StreamValue) → HasGone (C.locks locks.now) C.lock w.now (stored_by (O.shapes orders.now) (P.returns work.now)) first stream.old pass.old → StopsBy (C.locks locks.now) C.lock w.now true first.log stream.new pass.new result }
 {
     let mut shift = watch.start(rt, number);
     let puts = Puts::new();
@@ -153,7 +152,7 @@ fn take_turn<R: Threads + Wait, P: Work, O: Orders, C: Locked>(
     requires has { HasPass (C.is_of locks.now) (C.locks locks.now) w.now (stored_by (O.shapes orders.now) (P.returns work.now)) stream.old pass.old }
     ensures has { HasPass (C.is_of locks.now) (C.locks locks.now) w.now (stored_by (O.shapes orders.now) (P.returns work.now)) stream.new pass.new }
     ensures gone { (first : StreamValue) → HasGone (C.locks locks.now) C.lock w.now (stored_by (O.shapes orders.now) (P.returns work.now)) first stream.old pass.old → HasGone (C.locks locks.now) C.lock w.now (stored_by (O.shapes orders.now) (P.returns work.now)) first stream.new pass.new }
-    ensures worn { IfSome result (StopsBy (C.locks locks.now) C.lock stream.new pass.new) }
+    ensures stops { (first : StreamValue) → HasGone (C.locks locks.now) C.lock w.now (stored_by (O.shapes orders.now) (P.returns work.now)) first stream.old pass.old → IfSome result (StopsBy (C.locks locks.now) C.lock w.now true first.log stream.new pass.new) }
 {
     let Ok(turn) = advance(rt, w, orders, work, puts, locks, stream, pass) else {
         watch.refuse();
@@ -165,16 +164,21 @@ fn take_turn<R: Threads + Wait, P: Work, O: Orders, C: Locked>(
     match turn {
         Turn::Spent => Some(Stop::Spent),
         Turn::Worn => Some(Stop::Worn),
-        Turn::EmptyRound => idle_unless(!stream.is_idle() || watch.found_none(rt, shift)),
-        Turn::Stepped => idle_unless(watch.turned(shift, stream)),
-        Turn::Moved => idle_unless(watch.turned(shift, stream)),
+        Turn::EmptyRound => stop_unless(looks_on(rt, watch, shift, stream), Stop::Idle),
+        Turn::Stepped => stop_unless(watch.turned(shift, stream), Stop::Refused),
+        Turn::Moved => stop_unless(watch.turned(shift, stream), Stop::Refused),
     }
 }
 
-fn idle_unless(goes_on: bool) -> Option<Stop>
-    ensures { IfSome result (λ stop. stop ≡ stops.Idle) }
+// Whether a stream goes on after an empty round.
+fn looks_on<R: Threads + Wait>(rt: &R, watch: &Watch, shift: &mut Shift, stream: &Stream) -> bool {
+    !stream.is_idle() || watch.found_none(rt, shift)
+}
+
+fn stop_unless(goes_on: bool, stop: Stop) -> Option<Stop>
+    ensures { IfSome result (λ s. s ≡ stop) }
 {
-    if goes_on { None } else { Some(Stop::Idle) }
+    if goes_on { None } else { Some(stop) }
 }
 
 // Takes the memory that one turn of a stream needs, and makes the turn.
@@ -194,7 +198,7 @@ fn advance<R: Wait, P: Work, O: Orders, C: Locked>(
     requires has { HasPass (C.is_of locks.now) (C.locks locks.now) w.now (stored_by (O.shapes orders.now) (P.returns work.now)) stream.old pass.old }
     ensures has { HasPass (C.is_of locks.now) (C.locks locks.now) w.now (stored_by (O.shapes orders.now) (P.returns work.now)) stream.new pass.new }
     ensures gone { (first : StreamValue) → HasGone (C.locks locks.now) C.lock w.now (stored_by (O.shapes orders.now) (P.returns work.now)) first stream.old pass.old → HasGone (C.locks locks.now) C.lock w.now (stored_by (O.shapes orders.now) (P.returns work.now)) first stream.new pass.new }
-    ensures worn { IfOk result (λ t. t ≡ turn.Worn → IsWorn (C.locks locks.now) C.lock stream.new pass.new) }
+    ensures ends { IfOk result (TurnEnds (C.locks locks.now) C.lock w.now stream.old.log stream.new pass.new) }
 {
     w.known();
     orders.prepare(stream, w)?;

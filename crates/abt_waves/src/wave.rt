@@ -1,12 +1,13 @@
 //! One wave of streams.
 
-ghost use Rattle.std.specs.Prelude.{ℕ, ◌≡◌, ◌≢◌, Bool, IfOk, Some, false, length, slice_get};
+ghost use Rattle.std.specs.Prelude.{ℕ, ◌≡◌, ◌≢◌, ◌↔◌, Bool, IfOk, IsTrue, OnOk, Some, false, length, slice_get, true};
 ghost use Rattle.std.specs.List.{All};
 ghost use Rattle.abt_machine.specs.Stored.{CallsStored};
 ghost use Rattle.abt_order.specs.Stored.{stored_of};
 ghost use Rattle.abt_drain.specs.Crews.{AllKeep, moment_of};
 ghost use Rattle.abt_waves.specs.declared.voyages.Stop.TheVariants as why;
 ghost use Rattle.abt_waves.specs.Fleets.{IsFleet, IsFleetOver, MakesWave, MakesWaveOver, moment_over};
+ghost use Rattle.abt_waves.specs.Leaving.{HasLeft};
 ghost use Rattle.abt_waves.specs.Storing.{stored_by};
 ghost use Rattle.abt_waves.specs.Waves.{AreBack};
 
@@ -42,6 +43,7 @@ pub fn run_wave<'w, R: Threads + Wait + Sync, P: Work + Sync>(
     requires fleet { (n : ℕ) × IsFleet w.now (stored_of orders.now (P.returns work.now)) n objects streams.items }
     requires flags { length live.now ≡ w.now.streams }
     ensures fleet { IfOk result (λ left. (n : ℕ) → IsFleet w.now (stored_of orders.now (P.returns work.now)) n objects.entry streams.items → IsFleet w.now (stored_of orders.now (P.returns work.now)) n left.0 left.1.items) }
+    ensures left { IfOk result (λ left. (n : ℕ) → IsFleet w.now (stored_of orders.now (P.returns work.now)) n objects.entry streams.items → (s : ℕ) → slice_get live.now s ≡ Some true → HasLeft w.now n (moment_of w.now streams.items objects.entry) (moment_of w.now left.1.items left.0) s) }
     ensures wave { IfOk result (λ left. MakesWave w.now (stored_of orders.now (P.returns work.now)) live.now (moment_of w.now streams.items objects.entry) (moment_of w.now left.1.items left.0)) }
     ensures still { IfOk result (λ left. (s : ℕ) → slice_get live.now s ≡ Some false → slice_get left.1.items s ≡ slice_get streams.items s) }
     ensures keeps { IfOk result (λ left. (k : Bool) → AllKeep k streams.items → AllKeep k left.1.items) }
@@ -82,6 +84,7 @@ pub(crate) fn sail<
     requires fleet { (n : ℕ) × IsFleetOver L.lock L.clock w.now (stored_by (O.shapes orders.now) (P.returns work.now)) n objects streams.items }
     requires flags { length live.now ≡ w.now.streams }
     ensures fleet { IfOk result (λ left. (n : ℕ) → IsFleetOver L.lock L.clock w.now (stored_by (O.shapes orders.now) (P.returns work.now)) n objects.entry streams.items → IsFleetOver L.lock L.clock w.now (stored_by (O.shapes orders.now) (P.returns work.now)) n left.0 left.1.items) }
+    ensures left { IfOk result (λ left. (n : ℕ) → IsFleetOver L.lock L.clock w.now (stored_by (O.shapes orders.now) (P.returns work.now)) n objects.entry streams.items → (s : ℕ) → slice_get live.now s ≡ Some true → HasLeft w.now n (moment_of w.now streams.items objects.entry) (moment_of w.now left.1.items left.0) s) }
     ensures wave { IfOk result (λ left. MakesWaveOver L.lock L.clock w.now (stored_by (O.shapes orders.now) (P.returns work.now)) live.now (moment_over L.lock L.clock w.now streams.items objects.entry) (moment_over L.lock L.clock w.now left.1.items left.0)) }
     ensures still { IfOk result (λ left. (s : ℕ) → slice_get live.now s ≡ Some false → slice_get left.1.items s ≡ slice_get streams.items s) }
     ensures keeps { IfOk result (λ left. (k : Bool) → AllKeep k streams.items → AllKeep k left.1.items) }
@@ -121,15 +124,18 @@ fn parted<X: Drop>(
 
 // Err: a stream is out of memory.
 fn settle(stops: &[Stop]) -> Result<(), Want>
-    requires { All (λ stop. stop ≢ why.Worn) stops.now }
+    ensures { OnOk result (All (λ stop. stop ≢ why.Refused) stops.now) }
 {
-    for stop in stops {
-        match stop {
-            Stop::Idle => {}
-            Stop::Spent => {}
-            Stop::Refused => return Err(Want),
-            Stop::Worn => unreachable!(),
-        }
+    if stops.iter().all(|stop| has_memory(*stop)) {
+        Ok(())
+    } else {
+        Err(Want)
     }
-    Ok(())
+}
+
+// Whether a stream left for another reason than want of memory.
+fn has_memory(stop: Stop) -> bool
+    ensures { IsTrue result ↔ stop ≢ why.Refused }
+{
+    !matches!(stop, Stop::Refused)
 }

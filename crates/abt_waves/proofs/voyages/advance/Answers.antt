@@ -1,12 +1,15 @@
 -- A turn of one stream in a wave.
-use Rattle.std.proofs.Common.{◌≡◌, ◌^◌, refl, sym, ◌∙◌, ap, subst}
+use Rattle.std.proofs.Common.{◌≡◌, ◌^◌, List, refl, sym, ◌∙◌, ap, subst}
+use Rattle.abt_machine.specs.declared.events.Event.{Event}
+use Rattle.abt_machine.specs.declared.workload.Parts.{Parts}
 use Rattle.abt_machine.specs.declared.numbers.StreamNo.{StreamNo}
 use Rattle.abt_stream.specs.Heeding.{Heeds}
 use Rattle.abt_stream.specs.Streams.{FitsShapes, StreamValue}
 use Rattle.abt_stream.specs.Turned.{Turned}
 use Rattle.abt_waves.specs.Locks.{Moves}
+use Rattle.abt_waves.specs.Stops.{TurnEnds}
 use Rattle.abt_waves.specs.Voyages.{HasGone}
-use Rattle.abt_waves.proofs.Going.{few-after, prepared-gone, turned-gone, turned-worn}
+use Rattle.abt_waves.proofs.Going.{few-after, prepared-gone, turned-ends, turned-gone}
 use Rattle.abt_waves.specs.Storing.{stored_by}
 use Rattle.abt_waves.proofs.voyages.advance.Goals as goal
 
@@ -32,5 +35,7 @@ returns g c =
           (prepared-gone (g.C.Locked.locks c.args.locks.now) g.C.Locked.lock (g.C.Locked.locks c.args.locks.now).objects.workload Z first c.args.stream.now c.prepare.new.stream c.args.pass.now c.in_ok-prepare.ensures.same
           (subst (λ V. HasGone (g.C.Locked.locks c.args.locks.now) g.C.Locked.lock V Z first c.args.stream.now c.args.pass.now) (sym c.requires.locks) gone))
           c.turn-turn.result turned c.turn-turn.ensures.stream c.turn-turn.ensures.budget c.turn-turn.ensures.keeps);
-      worn = λ worn. turned-worn (g.C.Locked.locks c.args.locks.now) g.C.Locked.lock Z c.prepare.new.stream c.args.pass.now c.turn-turn.new.stream c.turn-turn.new.pass c.turn-turn.result worn turned;
+      ends = subst (λ (q : Parts × List Event). TurnEnds (g.C.Locked.locks c.args.locks.now) g.C.Locked.lock q.0 q.1 c.turn-turn.new.stream c.turn-turn.new.pass c.turn-turn.result)
+          (λ i. (c.requires.locks i, ap (λ (s : StreamValue). s.log) c.in_ok-prepare.ensures.same i))
+          (turned-ends (g.C.Locked.locks c.args.locks.now) g.C.Locked.lock Z c.prepare.new.stream c.args.pass.now c.turn-turn.new.stream c.turn-turn.new.pass c.turn-turn.result turned);
     }

@@ -2,9 +2,13 @@
 use Rattle.std.proofs.Common.{◌≡◌, true, false, refl, sym, ◌∙◌, subst}
 use Rattle.abt_waves.specs.declared.voyages.Stop.TheVariants as stop
 use Rattle.abt_waves.specs.Jobs.{HasReturned, JobValue, MayGo}
+use Rattle.abt_waves.specs.Stops.{StopsBy}
 use Rattle.abt_waves.proofs.Going.{none-gone}
 use Rattle.abt_waves.specs.Storing.{stored_by}
 use Rattle.abt_waves.proofs.voyages.voyage.Goals as goal
+
+differ : true ≡ false → ⊥
+differ e = cc
 
 pub returns-then-not-live : goal.returns-then-not-live
 returns-then-not-live g c =
@@ -14,7 +18,7 @@ returns-then-not-live g c =
     subst (λ j. HasReturned g.C.Locked.is_of g.C.Locked.locks g.C.Locked.lock c.args.w.now Z j (record { stream = own.stream; pass = own.pass; stop = stop.Idle })) c.job.view_is (record {
       has = fresh.has;
       gone = none-gone (g.C.Locked.locks own.locks) g.C.Locked.lock c.args.w.now Z own.stream own.pass fresh.fresh;
-      stops = tt;
+      stops = λ lives. absurd (differ (sym lives ∙ c.if-not-live.true));
       still = λ dead. refl;
     })
 
@@ -26,8 +30,7 @@ returns g c =
     subst (λ j. HasReturned g.C.Locked.is_of g.C.Locked.locks g.C.Locked.lock c.args.w.now Z j (record { stream = c.turns-stop.new.stream; pass = c.turns-stop.new.pass; stop = c.turns-stop.result })) c.job.view_is (record {
       has = c.turns-stop.ensures.has;
       gone = c.turns-stop.ensures.gone own.stream (none-gone (g.C.Locked.locks own.locks) g.C.Locked.lock c.args.w.now Z own.stream own.pass fresh.fresh);
-      stops = c.turns-stop.ensures.worn;
+      stops = subst (λ live. StopsBy (g.C.Locked.locks own.locks) g.C.Locked.lock c.args.w.now live own.stream.log c.turns-stop.new.stream c.turns-stop.new.pass c.turns-stop.result) (sym c.if-not-live.false)
+          (c.turns-stop.ensures.stops own.stream (none-gone (g.C.Locked.locks own.locks) g.C.Locked.lock c.args.w.now Z own.stream own.pass fresh.fresh));
       still = λ dead. absurd (differ (sym c.if-not-live.false ∙ dead));
-    }) where
-      differ : true ≡ false → ⊥
-      differ e = cc
+    })

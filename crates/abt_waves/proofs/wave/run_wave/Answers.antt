@@ -22,3 +22,8 @@ pub returns-clause-wave : goal.returns-clause-wave
 returns-clause-wave g c =
     let Z = stored_of c.args.orders.now (g.P.Work.returns c.args.work.now) in
     IfOk-weaker c.sail.result _ _ (λ left made. own-wave c.args.w.now Z c.args.live.now c.args.objects left.0 c.args.streams.items left.1.items made) c.sail.ensures.wave
+
+pub returns-clause-left : goal.returns-clause-left
+returns-clause-left g c =
+    let Z = stored_of c.args.orders.now (g.P.Work.returns c.args.work.now) in
+    IfOk-weaker c.sail.result _ _ (λ left so n is. so n (own-over c.args.w.now Z n c.args.objects c.args.streams.items is)) c.sail.ensures.left

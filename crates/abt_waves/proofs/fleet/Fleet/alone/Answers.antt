@@ -1,13 +1,15 @@
 -- The turns of one stream of a fleet.
-use Rattle.std.proofs.Common.{◌≡◌, ◌<◌, ◌≤◌, length, refl, sym, ◌∙◌, ap, set, subst}
+use Rattle.std.proofs.Common.{ℕ, ◌<◌, ◌≤◌, length, sym, ap, subst, arith}
 use Rattle.abt_machine.specs.Stored.{CallsStored}
 use Rattle.abt_order.specs.Stored.{stored_of}
 use Rattle.abt_commons.specs.Held.{clock_at}
 use Rattle.abt_commons.specs.Splits.{own_lock}
-use Rattle.abt_drain.specs.Crews.{CrewValue, IsCrew}
+use Rattle.abt_drain.specs.Crews.{CrewValue, IsCrew, moment_in}
+use Rattle.abt_drain.specs.Rotations.{work_at}
+use Rattle.abt_waves.specs.Leaving.{BeginsRounds}
 use Rattle.abt_waves.specs.Staying.{with_stream}
 use Rattle.abt_waves.specs.Waves.{IsFleetOf}
-use Rattle.abt_waves.proofs.Staying.{crew-fleet, crew-stays, fleet-crew, shapes-at, stream-at}
+use Rattle.abt_waves.proofs.Staying.{begins-at, crew-fleet, crew-stays, fleet-crew, fresh-stays, shapes-at, stream-at}
 use Rattle.abt_waves.proofs.Fleets.{fleet_of}
 use Rattle.abt_waves.proofs.fleet.Fleet.alone.Goals as goal
 
@@ -33,6 +35,14 @@ go_alone-requires g c =
       shapes = shapes-at own.workload Z own.steps c.in-Some.s own several crew inside c.index_mut.result.now c.index_mut.ensures.value;
     }
 
+same-le : (k : ℕ) → k ≤ k
+same-le k = omega arith
+
+pub returns-in_default-clause-raises_none : goal.returns-in_default-clause-raises_none
+returns-in_default-clause-raises_none g c =
+    subst (λ (v : CrewValue). work_at c.args.self.workload c.args.self.steps (moment_in c.args.self.workload v) ≤ work_at c.args.self.workload c.args.self.steps (moment_in c.args.self.workload c.args.self))
+    (sym c.self.view_is) (same-le (work_at c.args.self.workload c.args.self.steps (moment_in c.args.self.workload c.args.self)))
+
 pub returns : goal.returns
 returns g c =
     let Z = stored_of c.args.orders.now (g.P.Work.returns c.args.work.now) in
@@ -42,8 +52,10 @@ returns g c =
     let crew : IsCrew own.workload Z own.steps own = fleet-crew own.workload Z own.steps own several is in
     let inside : c.in-Some.s < length own.streams = subst (λ k. c.in-Some.s < k) (sym is.fleet_is.streams_are.many) c.in-Some.ensures in
     let next : CrewValue = with_stream own c.in-Some.s c.go_alone.new.stream c.in_ok-objects.objects in
-    let stays : IsCrew own.workload Z own.steps next = crew-stays own.workload Z own.steps c.in-Some.s own several crew inside c.index_mut.result.now c.index_mut.ensures.value c.go_alone.new.stream c.in_ok-objects.objects c.in_ok-objects.ensures in
+    let stays = crew-stays own.workload Z own.steps c.in-Some.s own several crew inside c.index_mut.result.now c.index_mut.ensures.value c.go_alone.new.stream c.in_ok-objects.objects c.in_ok-objects.ensures.stays in
+    let fresh : BeginsRounds own.workload (moment_in own.workload next) = fresh-stays own.workload Z own.steps c.in-Some.s own several crew inside c.index_mut.result.now c.index_mut.ensures.value c.go_alone.new.stream c.in_ok-objects.objects is.fresh (begins-at own.workload Z own.steps c.in-Some.s own several crew inside c.index_mut.result.now c.index_mut.ensures.value c.go_alone.new.stream c.in_ok-objects.ensures.fresh) in
     record {
-      fleet = subst (λ (v : CrewValue). IsFleetOf own_lock clock_at v.workload Z v.steps next) c.self.view_is (crew-fleet own.workload Z own.steps next stays);
+      fleet = subst (λ (v : CrewValue). IsFleetOf own_lock clock_at v.workload Z v.steps next) c.self.view_is (crew-fleet own.workload Z own.steps next stays.0 fresh);
+      raises_none = subst (λ (v : CrewValue). work_at v.workload v.steps (moment_in v.workload next) ≤ work_at v.workload v.steps (moment_in v.workload v)) c.self.view_is stays.1;
       keeps = ap (λ (v : CrewValue). v.keeps) c.self.view_is;
     }
