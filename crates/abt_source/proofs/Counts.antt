@@ -1,7 +1,7 @@
--- A count of faults that rises by one with each failure, of a sink whose bytes are not observable.
-use Rattle.std.proofs.Common.{◌≡◌, ◌≤◌, ℕ, List, None, Result, Ok, Err, OnOk, OnErr, refl, arith}
+-- A count of faults that rises by one with each failure.
+use Rattle.std.proofs.Common.{◌≡◌, ◌≤◌, ℕ, Result, Ok, Err, OnOk, OnErr, arith}
 use Rattle.std.proofs.lemmas.Grind.{common_steps}
-use Rattle.abt_source.specs.Source.{next_count, Rose, WriteTakes}
+use Rattle.abt_source.specs.Source.{next_count, Rose}
 use Rattle.abt_source.specs.declared.Failed.{Failed}
 
 -- The next number is no less.
@@ -22,8 +22,3 @@ later (Err e) old new ok failed = next_count-le old new failed
 pub cause : (r : Result ℕ Failed) (old new : ℕ) → OnErr r (new ≡ next_count old) → OnErr r (Rose old new)
 cause (Ok n) old new failed = tt
 cause (Err e) old new failed = next_count-Rose old new failed
-
--- What a sink takes is not observable after a write either.
-pub unobservable-write : (r : Result ℕ Failed) (piece : List ℕ) → WriteTakes None None r piece
-unobservable-write (Ok n) piece = refl
-unobservable-write (Err e) piece = refl

@@ -1,3 +1,4 @@
 pub mod Counts
+pub mod Output
 pub mod Pieces
 pub mod Process

@@ -1,4 +1,5 @@
 pub mod MemoryFiles
 pub mod MemorySink
 pub mod RealFiles
+pub mod RealSink
 pub mod Source

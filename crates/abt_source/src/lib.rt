@@ -4,6 +4,7 @@
 
 mod memory_files;
 mod memory_sink;
+mod put;
 mod reading;
 mod real_files;
 mod real_sink;

@@ -1,12 +1,14 @@
-//! The standard output and the standard error of the process. What they took is not observable; each failed write
-//! is counted.
+//! The standard output and the standard error of the process. Each failed write is counted. Contracts see the bytes of
+//! which the host answered that its standard output took them, and none of those of the standard error.
 
-ghost use Rattle.std.specs.Prelude.{◌≡◌, ◌<◌, ◌≤◌, length, None, IfOk, OnOk, OnErr};
-ghost use Rattle.abt_source.specs.Source.{next_count};
+ghost use Rattle.std.specs.Prelude.{◌≡◌, ◌<◌, ◌≤◌, length, take, None, Some, [], IfOk, OnErr};
+ghost use Rattle.abt_source.specs.RealSink.{after_fault, after_putting};
 
+use crate::put::{Put, remember};
 use crate::{Failed, Sink};
 use std::io;
 use std::marker::Model;
+use std::snapshot::Snapshot;
 
 #[derive(Clone, Copy, PartialEq, Eq)]
 enum Stream {
@@ -14,48 +16,52 @@ enum Stream {
     Err,
 }
 
-/// Standard output, which takes bytes, or standard error, which takes text. Contracts see the count of its
-/// faults. A host write of 0 bytes is a fault.
+/// Standard output, which takes bytes, or standard error, which takes text. A host write of 0 bytes is a fault. The bytes
+/// that were put are for the proof alone and take no memory.
 #[derive(Drop)]
 pub struct RealSink<'a, R: Print + Eprint> {
     rt: &'a R,
     stream: Stream,
     faults: u64,
+    last: Option<Snapshot<Put>>,
 }
 
 impl<'a, R: Print + Eprint> Model for RealSink<'a, R> {
-    ghost use Rattle.std.specs.Prelude.{ℕ};
+    ghost use Rattle.abt_source.specs.RealSink.{SinkOfProcess, put_of, remembered};
 
-    ghost Value = { ℕ };
+    ghost Value = { SinkOfProcess };
 
-    ghost view = { λ sink. sink.faults };
+    ghost view = { λ sink. record { put = put_of sink.stream (remembered sink.last); faults = sink.faults } };
 }
 
 impl<'a, R: Print + Eprint> RealSink<'a, R> {
-    /// The standard output.
+    /// The standard output, which took nothing yet.
     pub fn out(rt: &'a R) -> Self
-        ensures { result ≡ 0 }
+        ensures { result ≡ record { put = Some []; faults = 0 } }
     {
         RealSink {
             rt,
             stream: Stream::Out,
             faults: 0,
+            last: None,
         }
     }
 
-    /// The standard error. A piece that is not UTF-8, or that the host takes in part, is a fault.
+    /// The standard error, of which it is not observable what it takes. A piece that is not UTF-8, or that the host takes in
+    /// part, is a fault.
     pub fn err(rt: &'a R) -> Self
-        ensures { result ≡ 0 }
+        ensures { result ≡ record { put = None; faults = 0 } }
     {
         RealSink {
             rt,
             stream: Stream::Err,
             faults: 0,
+            last: None,
         }
     }
 
     // How many bytes the host took.
-    fn put(&self, piece: &[u8]) -> io::Result<usize>
+    fn hand(&self, piece: &[u8]) -> io::Result<usize>
         ensures { IfOk result (λ n. n ≤ length piece.now) }
     {
         match self.stream {
@@ -72,19 +78,22 @@ impl<'a, R: Print + Eprint> RealSink<'a, R> {
 }
 
 impl<R: Print + Eprint> Sink for RealSink<'_, R> {
-    ghost taken = { λ _. None };
+    ghost taken = { λ sink. sink.put };
 
-    ghost faults = { λ count. count };
+    ghost faults = { λ sink. sink.faults };
 
     fn write(&mut self, piece: &[u8]) -> Result<usize, Failed>
         requires { 0 < length piece.now }
         ensures least { IfOk result (λ n. 0 < n) }
         ensures bound { IfOk result (λ n. n ≤ length piece.now) }
-        ensures ok { OnOk result (self.new ≡ self.old) }
-        ensures failed { OnErr result (self.new ≡ next_count self.old) }
+        ensures ok { IfOk result (λ n. self.new ≡ after_putting self.old (take n piece.now)) }
+        ensures failed { OnErr result (self.new ≡ after_fault self.old) }
     {
-        match self.put(piece) {
-            Ok(n) if n > 0 => Ok(n),
+        match self.hand(piece) {
+            Ok(n) if n > 0 => {
+                remember(&mut self.last, &piece[..n]);
+                Ok(n)
+            }
             _ => {
                 self.faults = self.faults.saturating_add(1);
                 Err(Failed)
