@@ -5,6 +5,7 @@ pub mod Found
 pub mod Lists
 pub mod Names
 pub mod OneCommand
+pub mod OneLives
 pub mod Passed
 pub mod Readings
 pub mod Rules

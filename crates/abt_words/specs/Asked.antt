@@ -51,7 +51,7 @@ abbrev pub run_words : RunAsked → RunWords
 run_words a = record { file = a.file.now; steps = a.steps; journal = a.journal; why = a.why; schedule = a.schedule }
 
 abbrev pub check_words : CheckAsked → CheckWords
-check_words a = record { workload = a.workload.now; journal = a.journal.now }
+check_words a = record { workload = a.workload.now; journal = a.journal.now; shows = a.shows }
 
 abbrev pub explore_words : ExploreAsked → ExploreWords
 explore_words a = record { file = a.file.now; states = a.states; end = a.end; journal = a.journal }

@@ -13,9 +13,27 @@ use clap::ArgMatches;
 pub(crate) fn one_word<'a>(found: &ArgMatches<'a>) -> Option<&'a str>
     ensures { MatchOption result ((word : Text) → found_values found.now (codes "words") ≡ word ∷ [] → ⊥) (λ word. found_values found.now (codes "words") ≡ word.now ∷ []) }
 {
-    match given(found, WORDS) {
+    one_value(found, WORDS)
+}
+
+/// The one value that the option of this name is given.
+pub(crate) fn one_value<'a>(found: &ArgMatches<'a>, name: &str) -> Option<&'a str>
+    ensures { MatchOption result ((value : Text) → found_values found.now name.now ≡ value ∷ [] → ⊥) (λ value. found_values found.now name.now ≡ value.now ∷ []) }
+{
+    match given(found, name) {
         HowOften::Never => None,
-        HowOften::Once(word) => Some(word),
+        HowOften::Once(value) => Some(value),
+        HowOften::Often => None,
+    }
+}
+
+/// That the option of this name is not given.
+pub(crate) fn absent(found: &ArgMatches, name: &str) -> Option<()>
+    ensures { MatchOption result (found_values found.now name.now ≡ [] → ⊥) (λ _. found_values found.now name.now ≡ []) }
+{
+    match given(found, name) {
+        HowOften::Never => Some(()),
+        HowOften::Once(_) => None,
         HowOften::Often => None,
     }
 }

@@ -9,6 +9,8 @@ pub enum Schedule {
     Threads,
     /// On one thread, in rotation.
     InTurn,
+    /// On one thread, in rotations of which each has an order of its own, drawn by a generator with this seed.
+    Seed(u64),
 }
 
 /// What the words after `run` ask for: a file with a workload, at most how many steps each stream makes, if a word says that, whether
@@ -22,11 +24,24 @@ pub struct RunWords {
     pub schedule: Schedule,
 }
 
-/// What the words after `check` ask for: a file with a workload, and one with a journal.
+/// What is shown of a journal that is judged.
+#[derive(Clone, Copy, Debug, PartialEq, Eq)]
+pub enum Shows {
+    /// Whether it is a run.
+    Verdict,
+    /// The same, and how the run ended.
+    End,
+    /// The report of the run, and what units wait for, if that is asked for.
+    Report { why: bool },
+}
+
+/// What the words after `check` ask for, or those after `run` of which one names a schedule: a file with a workload, one with a journal,
+/// and what is shown of the journal.
 #[derive(Drop)]
 pub struct CheckWords {
     pub workload: Text,
     pub journal: Text,
+    pub shows: Shows,
 }
 
 /// What the words after `explore` ask for: a file with a workload, at most how many states are searched, if a word says that, and the
@@ -46,7 +61,7 @@ pub enum Command {
     Run(RunWords),
     /// Runs the workload that is generated for this many units.
     SelfRun { units: u32 },
-    /// Whether the journal in a file is a run of the workload in another.
+    /// Judges the journal in a file as a run of the workload in another.
     Check(CheckWords),
     /// What each unit of the workload in a file prints, whatever the schedule.
     Flow { file: Text },
