@@ -7,6 +7,7 @@ use Rattle.abt_machine.specs.declared.events.Outcome.{Outcome}
 use Rattle.abt_machine.specs.declared.events.Outcome.TheVariants as outcome
 use Rattle.abt_machine.specs.declared.events.Piece.{Piece}
 use Rattle.abt_machine.specs.declared.numbers.StreamNo.{StreamNo}
+use Rattle.abt_machine.specs.Outcomes.{EndsAs}
 use Rattle.abt_machine.specs.Stored.{Stored}
 use Rattle.abt_machine.specs.declared.program.Fault.{Fault}
 use Rattle.abt_machine.specs.declared.workload.Parts.{Parts}
@@ -17,7 +18,8 @@ use Rattle.abt_bounds.specs.Laws.{HasNoRevive, ops_in}
 use Rattle.abt_bounds.proofs.Budgets.{steps-bound-budgets}
 use Rattle.abt_check.specs.declared.verdict.Verdict.{Verdict}
 use Rattle.abt_check.specs.declared.verdict.Verdict.TheVariants as verdict
-use Rattle.abt_check.specs.Verdicts.{IsJudged, IsStampedRun}
+use Rattle.abt_check.specs.Verdicts.{IsJudged, IsRunUpTo, IsStampedRun}
+use Rattle.abt_drain.specs.Looks.{EndsWith}
 use Rattle.abt_flow.specs.Confluent.{Confluent}
 use Rattle.abt_flow.specs.Flow.{Functions, IsFlow}
 use Rattle.abt_generate.proofs.GeneratedParts.{IsValid-generated}
@@ -26,6 +28,8 @@ use Rattle.abt_words.specs.declared.commands.CheckWords.{CheckWords}
 use Rattle.abt_words.specs.declared.commands.Command.{Command}
 use Rattle.abt_words.specs.declared.commands.Command.TheVariants as command
 use Rattle.abt_words.specs.declared.commands.ExploreWords.{ExploreWords}
+use Rattle.abt_words.specs.declared.commands.Shows.{Shows}
+use Rattle.abt_words.specs.declared.commands.Shows.TheVariants as show
 use Rattle.abt_words.specs.Commands.{Says}
 use Rattle.abt_words.proofs.OneCommand.{one-command}
 use Rattle.abt_workload.proofs.RoundTrip.{only-valid}
@@ -39,18 +43,19 @@ use Rattle.abt_shell.specs.Status.{Status, Concluded, Stopped, CannotWrite, numb
 use Rattle.abt_shell.specs.Told.{Grew}
 use Rattle.abt_shell.proofs.Calls.{reads-well, writes-well}
 use Rattle.abt_shell.proofs.Fetched.{of-observed}
-use Rattle.abt_run.specs.Call.{Call, Decides, IsAnswered, IsOfRun, MissesFiles, MissesJournals, RefusesSteps, RunsKnown, program}
+use Rattle.abt_run.specs.Call.{Call, Decides, HasEnded, IsAnswered, IsOfRun, JudgesBy, MissesFiles, MissesJournals, RefusesSteps, RunsKnown, program}
 use Rattle.abt_run.specs.Given.{Compares, Given, IsReadFrom, SaysNothing, Tells, workload_file}
 use Rattle.abt_run.specs.Prepared.{HasNoWorkload, IsBadCommand, LacksSecond}
 use Rattle.abt_run.specs.Ends.{ShowsEnds}
-use Rattle.abt_run.specs.Printed.{AsksFlow, HasVerdict, IsFor, Prints, Ran}
+use Rattle.abt_run.specs.Printed.{AsksFlow, HasJudged, IsFor, LeadsTo, Prints, Ran, ShowsJudged, schedule_of}
 use Rattle.abt_run.specs.Status.{number_of_conclusion}
 use Rattle.abt_run.specs.declared.keeping.Keep.{Keep}
-use Rattle.abt_run.specs.Steps.{AsksBeyond, MayMake}
+use Rattle.abt_run.specs.Steps.{AsksBeyond, LetsStreams, MayMake}
 use Rattle.abt_run.specs.declared.status.Conclusion.{Conclusion}
-use Rattle.abt_run.specs.declared.status.Conclusion.TheVariants.{Ended, Judged, Flows, NotConfluent, Undefined, Finishes, Sticks, GoesOn, Unexplored, Helps, NamesVersion}
+use Rattle.abt_run.specs.declared.status.Conclusion.TheVariants.{Ended, Judged, Ends, Followed, Strays, Flows, NotConfluent, Undefined, Finishes, Sticks, GoesOn, Unexplored, Helps, NamesVersion}
+use Rattle.abt_run.proofs.Outputs.{run-ended, run-is-run}
 use Rattle.abt_run.proofs.Preparing.{none-is, some-is}
-use Rattle.abt_run.proofs.Stepping.{check-asks-none, flow-asks-none, same-steps}
+use Rattle.abt_run.proofs.Stepping.{check-asks-none, flow-asks-none, same-number, same-steps}
 use Rattle.abt_run.proofs.Texts.{one-journal}
 
 -- Files.
@@ -175,6 +180,9 @@ module _ (g : Given) (keep : Keep) (J : Option (List Event)) (text : Text) where
   printed-says : (c : Conclusion) → Prints g keep c J text → (d : Command) × Says g.words d
   printed-says (Ended o) prints = (prints.command, prints.says)
   printed-says (Judged v) prints = (_, prints.0.compares.says)
+  printed-says (Ends end) prints = (_, prints.0.compares.says)
+  printed-says (Followed end) prints = (_, prints.0.compares.says)
+  printed-says (Strays at) prints = (_, prints.0.compares.says)
   printed-says Flows prints = (_, prints.0.asks.says)
   printed-says NotConfluent prints = (_, prints.0.asks.says)
   printed-says Undefined prints = (_, prints.0.asks.says)
@@ -199,16 +207,21 @@ module _ (g : Given) (keep : Keep) (J : Option (List Event)) (text : Text) where
         let same : shows.asked.file ≡ file = some-is shows.asked.file file (ap workload_file (one-command g.words (command.Explore shows.asked) d shows.asks.says says) ∙ names) in
         (shows.workload, subst (λ (n : Text). IsReadFrom g n shows.workload) same shows.asks.reads)
 
+    judged-reads : (W : Parts) (Is : Text → Type 0) → Compares g W Is → (V : Parts) × IsReadFrom g file V
+    judged-reads W Is compares =
+        let same : compares.asked.workload ≡ file = some-is compares.asked.workload file (ap workload_file (one-command g.words (command.Check compares.asked) d compares.says says) ∙ names) in
+        (W, subst (λ (n : Text). IsReadFrom g n W) same compares.reads)
+
     names-none : (e : Command) → workload_file e ≡ None → Says g.words e → ⊥
     names-none e none said = none-is file (sym none ∙ ap workload_file (one-command g.words e d said says) ∙ names)
 
     -- a workload is read from the file that the words name
     printed-reads : (c : Conclusion) → Prints g keep c J text → (W : Parts) × IsReadFrom g file W
     printed-reads (Ended o) prints = ran-reads o prints
-    printed-reads (Judged v) prints =
-        let compares = prints.0.compares in
-        let same : compares.asked.workload ≡ file = some-is compares.asked.workload file (ap workload_file (one-command g.words (command.Check compares.asked) d compares.says says) ∙ names) in
-        (prints.0.workload, subst (λ (n : Text). IsReadFrom g n prints.0.workload) same compares.reads)
+    printed-reads (Judged v) prints = judged-reads prints.0.workload (IsTextOf prints.0.journal) prints.0.compares
+    printed-reads (Ends end) prints = judged-reads prints.0.workload (IsTextOf prints.0.journal) prints.0.compares
+    printed-reads (Followed end) prints = judged-reads prints.0.workload (IsTextOf prints.0.journal) prints.0.compares
+    printed-reads (Strays at) prints = judged-reads prints.0.workload (IsTextOf prints.0.journal) prints.0.compares
     printed-reads Flows prints = flow-reads prints.0.workload prints.0.asks
     printed-reads NotConfluent prints = flow-reads prints.0.workload prints.0.asks
     printed-reads Undefined prints = flow-reads prints.0.workload prints.0.asks
@@ -219,7 +232,7 @@ module _ (g : Given) (keep : Keep) (J : Option (List Event)) (text : Text) where
     printed-reads Helps prints = absurd (names-none command.Help refl prints.0)
     printed-reads NamesVersion prints = absurd (names-none command.Version refl prints.0)
 
-  -- words that ask for a check print a verdict
+  -- words that ask for a check print what it shows
   module _ (w : CheckWords) (says : Says g.words (command.Check w)) where
     no-run : (o : Outcome) → Ran g keep J o text → ⊥
     no-run o ran = subst (λ (x : Command). IsFor x g ran.workload) (one-command g.words ran.command (command.Check w) ran.says says) ran.is
@@ -230,23 +243,33 @@ module _ (g : Given) (keep : Keep) (J : Option (List Event)) (text : Text) where
     no-ends : (c : Conclusion) → ShowsEnds g c text → ⊥
     no-ends c shows = check-is-no-search w shows.asked (one-command g.words (command.Check w) (command.Explore shows.asked) says shows.asks.says)
 
-    printed-verdict : (c : Conclusion) → Prints g keep c J text → (v : Verdict) × HasVerdict g v × (c ≡ Judged v)
-    printed-verdict (Ended o) prints = absurd (no-run o prints)
-    printed-verdict (Judged v) prints = (v, prints.0, refl)
-    printed-verdict Flows prints = absurd (no-flow prints.0.workload prints.0.asks)
-    printed-verdict NotConfluent prints = absurd (no-flow prints.0.workload prints.0.asks)
-    printed-verdict Undefined prints = absurd (no-flow prints.0.workload prints.0.asks)
-    printed-verdict Finishes prints = absurd (no-ends Finishes prints.0)
-    printed-verdict Sticks prints = absurd (no-ends Sticks prints.0)
-    printed-verdict GoesOn prints = absurd (no-ends GoesOn prints.0)
-    printed-verdict Unexplored prints = absurd (no-ends Unexplored prints.0)
-    printed-verdict Helps prints = absurd (check-is-no-help w (one-command g.words (command.Check w) command.Help says prints.0))
-    printed-verdict NamesVersion prints = absurd (check-is-no-version w (one-command g.words (command.Check w) command.Version says prints.0))
+    -- a journal of W that is judged
+    abbrev IsCompared : Type 0
+    IsCompared = (V : Parts) × (K : List Event) × Compares g V (IsTextOf K)
+
+    printed-compares : (c : Conclusion) → Prints g keep c J text → IsCompared
+    printed-compares (Ended o) prints = absurd (no-run o prints)
+    printed-compares (Judged v) prints = (prints.0.workload, prints.0.journal, prints.0.compares)
+    printed-compares (Ends end) prints = (prints.0.workload, prints.0.journal, prints.0.compares)
+    printed-compares (Followed end) prints = (prints.0.workload, prints.0.journal, prints.0.compares)
+    printed-compares (Strays at) prints = (prints.0.workload, prints.0.journal, prints.0.compares)
+    printed-compares Flows prints = absurd (no-flow prints.0.workload prints.0.asks)
+    printed-compares NotConfluent prints = absurd (no-flow prints.0.workload prints.0.asks)
+    printed-compares Undefined prints = absurd (no-flow prints.0.workload prints.0.asks)
+    printed-compares Finishes prints = absurd (no-ends Finishes prints.0)
+    printed-compares Sticks prints = absurd (no-ends Sticks prints.0)
+    printed-compares GoesOn prints = absurd (no-ends GoesOn prints.0)
+    printed-compares Unexplored prints = absurd (no-ends Unexplored prints.0)
+    printed-compares Helps prints = absurd (check-is-no-help w (one-command g.words (command.Check w) command.Help says prints.0))
+    printed-compares NamesVersion prints = absurd (check-is-no-version w (one-command g.words (command.Check w) command.Version says prints.0))
+
+    same-asked : (W : Parts) (Is : Text → Type 0) → (compares : Compares g W Is) → compares.asked ≡ w
+    same-asked W Is compares = check-is compares.asked w (one-command g.words (command.Check compares.asked) (command.Check w) compares.says says)
 
     -- and the journal is read from the second file
     compared-journal : (W : Parts) (Is : Text → Type 0) → Compares g W Is → IsReadFrom g w.workload W × IfSome (g.file w.journal) Is
     compared-journal W Is compares =
-        let same : compares.asked ≡ w = check-is compares.asked w (one-command g.words (command.Check compares.asked) (command.Check w) compares.says says) in (
+        let same : compares.asked ≡ w = same-asked W Is compares in (
           subst (λ (x : CheckWords). IsReadFrom g x.workload W) same compares.reads,
           subst (λ (x : CheckWords). IfSome (g.file x.journal) Is) same compares.is,
         )
@@ -279,6 +302,12 @@ runs-concluded : (c : Conclusion) (call : Call) (text : Text) (d : Command) (W :
 runs-concluded (Ended o) call text d W prints says known = outcome-is-of-run o
 runs-concluded (Judged v) call text d W prints says known =
     absurd (subst (λ (x : Command). RunsKnown x call.given W) (one-command call.given.words d _ says prints.0.compares.says) known)
+runs-concluded (Ends end) call text d W prints says known =
+    absurd (subst (λ (x : Command). RunsKnown x call.given W) (one-command call.given.words d _ says prints.0.compares.says) known)
+runs-concluded (Followed end) call text d W prints says known =
+    absurd (subst (λ (x : Command). RunsKnown x call.given W) (one-command call.given.words d _ says prints.0.compares.says) known)
+runs-concluded (Strays at) call text d W prints says known =
+    absurd (subst (λ (x : Command). RunsKnown x call.given W) (one-command call.given.words d _ says prints.0.compares.says) known)
 runs-concluded Flows call text d W prints says known = absurd (subst (λ (x : Command). RunsKnown x call.given W) (one-command call.given.words d _ says prints.0.asks.says) known)
 runs-concluded NotConfluent call text d W prints says known = absurd (subst (λ (x : Command). RunsKnown x call.given W) (one-command call.given.words d _ says prints.0.asks.says) known)
 runs-concluded Undefined call text d W prints says known = absurd (subst (λ (x : Command). RunsKnown x call.given W) (one-command call.given.words d _ says prints.0.asks.says) known)
@@ -308,30 +337,78 @@ runs (Stopped CannotRead) c d W h says known within still = absurd (still.0 h.ca
 runs (Stopped OutOfMemory) c d W h says known within still = inr refl
 runs CannotWrite c d W h says known within still = absurd (still.1 h.faults)
 
+-- a journal is no run, if only its first events are one
+not-run : (W : Parts) (Z : Stored) (J : List Event) (at : ℕ) → IsRunUpTo W Z J at → IsStampedRun W Z J → ⊥
+not-run W Z J at is run =
+    let most : length J ≤ at = is.greatest (length J) (omega arith) (subst (IsStampedRun W Z) (sym (take_all (length J) J (omega arith))) run) in
+    let within : at < length J = is.within in
+    omega arith
+
 -- the verdict decides
 decided : (W : Parts) (Z : Stored) (J : List Event) (v : Verdict) → IsJudged W Z J v → Decides (number_of_conclusion (Judged v)) (IsStampedRun W Z J)
 decided W Z J verdict.Run is = inl (is, refl)
-decided W Z J (verdict.Bad at) is = inr (
-  λ run.
-      let most : length J ≤ at = is.greatest (length J) (omega arith) (subst (IsStampedRun W Z) (sym (take_all (length J) J (omega arith))) run) in
-      let within : at < length J = is.within in
-      absurd (omega arith),
-  refl,
-)
+decided W Z J (verdict.Bad at) is = inr (not-run W Z J at is, refl)
+
+-- a journal that could go on has not ended
+not-ended : (W : Parts) (n : ℕ) (J : List Event) (o : Outcome) → EndsWith W n J None → EndsAs W n J o → ⊥
+not-ended W n J outcome.Finished goes ended = goes.0 ended.0
+not-ended W n J outcome.Stuck goes ended = goes.0 ended.0
+not-ended W n J (outcome.Budget s) goes ended = goes.1 s.0 ended.0
+
+-- and so does its end
+decided-end : (W : Parts) (Z : Stored) (n : ℕ) (J : List Event) (end : Option Outcome) → LeadsTo W Z n J end → Decides (number_of_conclusion (Ends end)) (IsStampedRun W Z J × HasEnded W n J)
+decided-end W Z n J None leads = inr (λ has. not-ended W n J has.1.0 leads.1 has.1.1, refl)
+decided-end W Z n J (Some o) leads = inl ((leads.0, (o, leads.1)), refl)
+
+-- what is shown of a journal is what the status says
+module _ (W : Parts) (Z : Stored) (n : ℕ) (J : List Event) (told : Option Text) (bytes : Text) (seen : told ≡ Some bytes) (lets : LetsStreams told None n) where
+  says-judged : (s : Shows) (c : Conclusion) (text : Text) → ShowsJudged s W Z n J c text → JudgesBy s (number_of_conclusion c) told W Z J
+  says-judged show.Verdict c text shown =
+      subst (λ (x : Conclusion). JudgesBy show.Verdict (number_of_conclusion x) told W Z J) (sym shown.1) (decided W Z J shown.0 shown.2)
+  says-judged show.End c text (inl bad) =
+      subst (λ (x : Conclusion). JudgesBy show.End (number_of_conclusion x) told W Z J) (sym bad.1) (λ steps its. inr (λ has. not-run W Z J bad.0 bad.2 has.0, refl))
+  says-judged show.End c text (inr led) =
+      subst (λ (x : Conclusion). JudgesBy show.End (number_of_conclusion x) told W Z J) (sym led.1)
+      (λ steps its. subst (λ (m : ℕ). Decides (number_of_conclusion (Ends led.0)) (IsStampedRun W Z J × HasEnded W m J)) (same-number told bytes None n steps seen lets its) (decided-end W Z n J led.0 led.2))
+  says-judged (show.Report why) c text (inl bad) =
+      subst (λ (x : Conclusion). JudgesBy (show.Report why) (number_of_conclusion x) told W Z J) (sym bad.1) (λ steps its. inr (not-run W Z J bad.0 bad.2, refl))
+  says-judged (show.Report why) c text (inr led) =
+      subst (λ (x : Conclusion). JudgesBy (show.Report why) (number_of_conclusion x) told W Z J) (sym led.1)
+      (λ steps its. inl (led.2.0, (led.0, subst (λ (m : ℕ). EndsWith W m J led.0) (same-number told bytes None n steps seen lets its) led.2.1, refl)))
 
 module _ (c : Call) (w : CheckWords) (W : Parts) (J : List Event) (says : Says c.given.words (command.Check w))
     (tells : Tells c.given w.workload (λ bytes. Reads bytes W)) (also : Tells c.given w.journal (IsTextOf J)) where
-  checked-verdict : (v : Verdict) → HasVerdict c.given v → Decides (number_of_conclusion (Judged v)) (IsStampedRun W c.given.stored J)
-  checked-verdict v has =
+  -- what is shown of the known journal
+  judged-shown : (k : Conclusion) (text : Text) → HasJudged c.given k text → JudgesBy w.shows (number_of_conclusion k) (c.given.file w.workload) W c.given.stored J
+  judged-shown k text has =
       let read = compared-journal c.given c.keep c.journal [] w says has.workload (IsTextOf has.journal) has.compares in
       let same : has.workload ≡ W = same-workload c.given w.workload W has.workload tells read.0 in
       let equal : has.journal ≡ J = same-journal c.given w.journal J has.journal also read.1 in
-      decided W c.given.stored J v (subst (λ (V : Parts). IsJudged V c.given.stored J v) same (subst (λ (K : List Event). IsJudged has.workload c.given.stored K v) equal has.judged))
+      let asked : has.compares.asked ≡ w = same-asked c.given c.keep c.journal [] w says has.workload (IsTextOf has.journal) has.compares in
+      says-judged W c.given.stored has.steps J (c.given.file w.workload) tells.0 tells.1
+      (subst (λ (x : CheckWords). LetsStreams (c.given.file x.workload) None has.steps) asked has.lets) w.shows k text
+      (subst (λ (x : CheckWords). ShowsJudged x.shows W c.given.stored has.steps J k text) asked
+      (subst (λ (V : Parts). ShowsJudged has.compares.asked.shows V c.given.stored has.steps J k text) same
+      (subst (λ (K : List Event). ShowsJudged has.compares.asked.shows has.workload c.given.stored has.steps K k text) equal has.shown)))
 
-  checks : (s : Status Conclusion) → Holds (program c) c.left s → IsStill c.left → Decides (number_of number_of_conclusion s) (IsStampedRun W c.given.stored J) ⊎ (number_of number_of_conclusion s ≡ 7)
-  checks (Concluded k) h still =
-      let has = printed-verdict c.given c.keep c.journal h.text w says k h.prints in
-      inl (subst (λ (x : Conclusion). Decides (number_of_conclusion x) (IsStampedRun W c.given.stored J)) (sym has.2) (checked-verdict has.0 has.1))
+  checks-concluded : (k : Conclusion) (text : Text) → Prints c.given c.keep k c.journal text → JudgesBy w.shows (number_of_conclusion k) (c.given.file w.workload) W c.given.stored J
+  checks-concluded (Ended o) text prints = absurd (no-run c.given c.keep c.journal text w says o prints)
+  checks-concluded (Judged v) text prints = judged-shown (Judged v) text prints.0
+  checks-concluded (Ends end) text prints = judged-shown (Ends end) text prints.0
+  checks-concluded (Followed end) text prints = judged-shown (Followed end) text prints.0
+  checks-concluded (Strays at) text prints = judged-shown (Strays at) text prints.0
+  checks-concluded Flows text prints = absurd (no-flow c.given c.keep c.journal text w says prints.0.workload prints.0.asks)
+  checks-concluded NotConfluent text prints = absurd (no-flow c.given c.keep c.journal text w says prints.0.workload prints.0.asks)
+  checks-concluded Undefined text prints = absurd (no-flow c.given c.keep c.journal text w says prints.0.workload prints.0.asks)
+  checks-concluded Finishes text prints = absurd (no-ends c.given c.keep c.journal text w says Finishes prints.0)
+  checks-concluded Sticks text prints = absurd (no-ends c.given c.keep c.journal text w says Sticks prints.0)
+  checks-concluded GoesOn text prints = absurd (no-ends c.given c.keep c.journal text w says GoesOn prints.0)
+  checks-concluded Unexplored text prints = absurd (no-ends c.given c.keep c.journal text w says Unexplored prints.0)
+  checks-concluded Helps text prints = absurd (check-is-no-help w (one-command c.given.words (command.Check w) command.Help says prints.0))
+  checks-concluded NamesVersion text prints = absurd (check-is-no-version w (one-command c.given.words (command.Check w) command.Version says prints.0))
+
+  checks : (s : Status Conclusion) → Holds (program c) c.left s → IsStill c.left → JudgesBy w.shows (number_of number_of_conclusion s) (c.given.file w.workload) W c.given.stored J ⊎ (number_of number_of_conclusion s ≡ 7)
+  checks (Concluded k) h still = inl (checks-concluded k h.text h.prints)
   checks (Stopped BadWords) h still = absurd (not-bad-words c.given _ says (check-asks-none c.given w says) h.cause.why)
   checks (Stopped (BadLine line (Workload f))) h still =
       let named = h.cause.why.named in
@@ -351,6 +428,9 @@ module _ (c : Call) (file : Text) (W : Parts) (says : Says c.given.words (comman
   flow-concluded : (k : Conclusion) (text : Text) → Prints c.given c.keep k c.journal text → Decides (number_of_conclusion k) (HasFlows c.given.stored.returns W)
   flow-concluded (Ended o) text prints = absurd (flow-no-run c.given c.keep c.journal text file says o prints)
   flow-concluded (Judged v) text prints = absurd (flow-no-check c.given c.keep c.journal text file says prints.0.workload (IsTextOf prints.0.journal) prints.0.compares)
+  flow-concluded (Ends end) text prints = absurd (flow-no-check c.given c.keep c.journal text file says prints.0.workload (IsTextOf prints.0.journal) prints.0.compares)
+  flow-concluded (Followed end) text prints = absurd (flow-no-check c.given c.keep c.journal text file says prints.0.workload (IsTextOf prints.0.journal) prints.0.compares)
+  flow-concluded (Strays at) text prints = absurd (flow-no-check c.given c.keep c.journal text file says prints.0.workload (IsTextOf prints.0.journal) prints.0.compares)
   flow-concluded Flows text prints =
       let same = flow-asked c.given c.keep c.journal text file says W prints.0.workload tells prints.0.asks in
       inl (subst (HasFlows c.given.stored.returns) same (prints.0.confluent, (prints.0.rows, prints.0.flow)), refl)
@@ -390,7 +470,9 @@ module _ (c : Call) (d : Command) (W : Parts) (steps : ℕ) (two : 2 ≤ length 
       let count : ran.steps ≡ steps = same-steps c.given d W ran.steps steps known (subst (λ (x : Command). MayMake x c.given ran.steps) same ran.may) may in
       let most : ops_in ran.workload ≤ ran.steps = subst (λ (n : ℕ). ops_in ran.workload ≤ n) (sym count) (subst (λ V. ops_in V ≤ steps) (sym is) few) in
       let sound : IsValid ran.workload = subst IsValid (sym is) (runs-valid c.given d W says known) in
-      steps-bound-budgets ran.workload c.given.stored sound (orders-stored ran.workload c.given.stored sound two) (subst HasNoRevive (sym is) none) ran.steps s.0 ran.journal most ran.run.run ran.run.ended.0
+      steps-bound-budgets ran.workload c.given.stored sound (orders-stored ran.workload c.given.stored sound two) (subst HasNoRevive (sym is) none) ran.steps s.0 ran.journal most
+      (run-is-run ran.workload c.given.stored ran.steps ran.journal (outcome.Budget s) (schedule_of ran.command) ran.run)
+      (run-ended ran.workload c.given.stored ran.steps ran.journal (outcome.Budget s) (schedule_of ran.command) ran.run).0
 
   spends-concluded : (k : Conclusion) (text : Text) → Prints c.given c.keep k c.journal text → number_of_conclusion k ≢ 4
   spends-concluded (Ended outcome.Finished) text prints = λ e. absurd (omega arith)
@@ -398,6 +480,9 @@ module _ (c : Call) (d : Command) (W : Parts) (steps : ℕ) (two : 2 ≤ length 
   spends-concluded (Ended (outcome.Budget s)) text prints = λ e. no-budget s text prints
   spends-concluded (Judged verdict.Run) text prints = λ e. absurd (omega arith)
   spends-concluded (Judged (verdict.Bad at)) text prints = λ e. absurd (omega arith)
+  spends-concluded (Ends end) text prints = absurd (subst (λ (x : Command). RunsKnown x c.given W) (one-command c.given.words d _ says prints.0.compares.says) known)
+  spends-concluded (Followed end) text prints = absurd (subst (λ (x : Command). RunsKnown x c.given W) (one-command c.given.words d _ says prints.0.compares.says) known)
+  spends-concluded (Strays at) text prints = absurd (subst (λ (x : Command). RunsKnown x c.given W) (one-command c.given.words d _ says prints.0.compares.says) known)
   spends-concluded Flows text prints = λ e. absurd (omega arith)
   spends-concluded NotConfluent text prints = λ e. absurd (omega arith)
   spends-concluded Undefined text prints = λ e. absurd (omega arith)
@@ -434,15 +519,15 @@ refuses CannotWrite c d file h says names tells within still =
 refuses-journal : (s : Status Conclusion) (c : Call) (w : CheckWords) → Holds (program c) c.left s → Says c.given.words (command.Check w)
     → Tells c.given w.journal (λ bytes. (J : List Event) → IsTextOf J bytes → ⊥) → (Grew c.left.read_faults → ⊥) → (number_of number_of_conclusion s ≡ 3) ⊎ (number_of number_of_conclusion s ≡ 7)
 refuses-journal (Concluded k) c w h says tells still =
-    let has = printed-verdict c.given c.keep c.journal h.text w says k h.prints in
-    absurd (not-journal c.given w.journal has.1.journal tells (compared-journal c.given c.keep c.journal [] w says has.1.workload (IsTextOf has.1.journal) has.1.compares).1)
+    let has = printed-compares c.given c.keep c.journal h.text w says k h.prints in
+    absurd (not-journal c.given w.journal has.1 tells (compared-journal c.given c.keep c.journal [] w says has.0 (IsTextOf has.1) has.2).1)
 refuses-journal (Stopped BadWords) c w h says tells still = absurd (not-bad-words c.given _ says (check-asks-none c.given w says) h.cause.why)
 refuses-journal (Stopped (BadLine line wrong)) c w h says tells still = inl refl
 refuses-journal (Stopped CannotRead) c w h says tells still = absurd (still h.cause.why.1)
 refuses-journal (Stopped OutOfMemory) c w h says tells still = inr refl
 refuses-journal CannotWrite c w h says tells still =
-    let has = printed-verdict c.given c.keep c.journal h.text w says h.conclusion h.prints in
-    absurd (not-journal c.given w.journal has.1.journal tells (compared-journal c.given c.keep c.journal [] w says has.1.workload (IsTextOf has.1.journal) has.1.compares).1)
+    let has = printed-compares c.given c.keep c.journal h.text w says h.conclusion h.prints in
+    absurd (not-journal c.given w.journal has.1 tells (compared-journal c.given c.keep c.journal [] w says has.0 (IsTextOf has.1) has.2).1)
 
 -- words that say no command are refused
 refuses-words : (s : Status Conclusion) (c : Call) → Holds (program c) c.left s → SaysNothing c.given.words → (number_of number_of_conclusion s ≡ 2) ⊎ (number_of number_of_conclusion s ≡ 7)
@@ -466,6 +551,11 @@ none-concludes : (n : ℕ) → 5 ≤ n → n ≤ 6 → (k : Conclusion) → numb
 none-concludes n high low (Ended o) = no-fault o n high
 none-concludes n high low (Judged verdict.Run) = λ e. absurd (omega arith)
 none-concludes n high low (Judged (verdict.Bad at)) = λ e. absurd (omega arith)
+none-concludes n high low (Ends None) = λ e. absurd (omega arith)
+none-concludes n high low (Ends (Some o)) = λ e. absurd (omega arith)
+none-concludes n high low (Followed None) = λ e. absurd (omega arith)
+none-concludes n high low (Followed (Some o)) = no-fault o n high
+none-concludes n high low (Strays at) = λ e. absurd (omega arith)
 none-concludes n high low Flows = λ e. absurd (omega arith)
 none-concludes n high low NotConfluent = λ e. absurd (omega arith)
 none-concludes n high low Undefined = λ e. absurd (omega arith)

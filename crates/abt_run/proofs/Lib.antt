@@ -1,5 +1,6 @@
 pub mod Complete
 pub mod FlowWords
+pub mod Judging
 pub mod Outputs
 pub mod Preparing
 pub mod Searching

@@ -6,19 +6,26 @@ use Rattle.std.proofs.lemmas.List.FromFn.{length-map-range_with_len}
 use Rattle.abt_machine.specs.declared.events.Event.{Event}
 use Rattle.abt_machine.specs.declared.events.Outcome.{Outcome}
 use Rattle.abt_machine.specs.declared.workload.Parts.{Parts}
-use Rattle.abt_machine.specs.Outcomes.{steps_in}
-use Rattle.abt_machine.specs.Runs.{last_state}
+use Rattle.abt_machine.specs.Outcomes.{EndsAs, steps_in}
+use Rattle.abt_machine.specs.Rounds.{OrdersStored}
+use Rattle.abt_machine.specs.Runs.{Run as IsRun, last_state}
 use Rattle.abt_machine.specs.Stored.{Stored}
 use Rattle.abt_machine.specs.Texts.{journal_text, report_of, report_text, short_of, short_text, shown_units}
+use Rattle.abt_machine.specs.Valid.{IsValid}
 use Rattle.abt_machine.specs.Words.{Text}
 use Rattle.abt_drain.specs.declared.run.Run.{Run}
 use Rattle.abt_drain.specs.Ends.{IsLeftOf, LeavesRun}
+use Rattle.abt_drain.specs.Runs.{IsRunOf}
 use Rattle.abt_record.specs.Records.{IsKept}
 use Rattle.abt_report.specs.Pictures.{IsPictureOf, unit_in_row, units_in_rows}
+use Rattle.abt_schedule.proofs.Determined.{one-run}
+use Rattle.abt_schedule.specs.Runs.{LeavesSeeded}
+use Rattle.abt_schedule.specs.declared.scheduled.Scheduled.{Scheduled}
 use Rattle.abt_why.specs.Texts.{why_text}
+use Rattle.abt_words.specs.declared.commands.Schedule.{Schedule}
 use Rattle.abt_words.specs.declared.commands.Schedule.TheVariants as schedule
 use Rattle.abt_run.specs.Kept.{either, keeps}
-use Rattle.abt_run.specs.Printed.{IsShownIn, LeavesScheduled}
+use Rattle.abt_run.specs.Printed.{HasRunBy, IsShownIn, LeavesScheduled}
 use Rattle.abt_run.specs.declared.keeping.Keep.{Keep}
 use Rattle.abt_run.specs.declared.keeping.Keep.TheVariants as keep
 
@@ -98,6 +105,36 @@ shown-in W k prints kept Property left e is = record {
   journal = printed-there k prints is.events left.journal (subst (λ (b : Bool). IsKept b is.events left.journal) e is.kept);
 }
 
+-- what each schedule leaves is a run that ended so
+module _ (W : Parts) (Z : Stored) (n : ℕ) (J : List Event) (o : Outcome) where
+  pub run-is-run : (s : Schedule) → HasRunBy s W Z n J o → IsRun W Z J
+  run-is-run schedule.Threads has = has.run
+  run-is-run schedule.InTurn has = has.run
+  run-is-run (schedule.Seed seed) has = has.run
+
+  pub run-ended : (s : Schedule) → HasRunBy s W Z n J o → EndsAs W n J o
+  run-ended schedule.Threads has = has.ended
+  run-ended schedule.InTurn has = has.ended
+  run-ended (schedule.Seed seed) has = has.ended
+
 -- streams on threads take any turns
 pub by_threads : (W : Parts) (Z : Stored) (n : ℕ) (kept : Bool) (left : Run) → LeavesRun W Z n kept left → LeavesScheduled schedule.Threads W Z n kept left
 by_threads W Z n kept left is = record { events = is.events; holds = (is.holds, tt); kept = is.kept; pictured = is.pictured; counted = is.counted }
+
+-- and those of a seeded run the turns of its seed, which are one run
+pub by_seed : (W : Parts) (Z : Stored) (seed n : ℕ) (kept : Bool) (scheduled : Scheduled) (left : Run) → IsValid W → OrdersStored W Z.orders → LeavesSeeded W Z seed n scheduled
+    → IsKept kept scheduled.journal left.journal → left.picture ≡ scheduled.picture → left.steps ≡ scheduled.steps → left.outcome ≡ scheduled.outcome
+    → LeavesScheduled (schedule.Seed seed) W Z n kept left
+by_seed W Z seed n kept scheduled left valid stored is keeps picture steps ended = record {
+  events = scheduled.journal;
+  holds = (
+    subst (IsRunOf W Z n scheduled.journal) (sym ended) is.run,
+    record {
+      seeded = is.seeded;
+      only = λ none K run seeded. one-run W Z valid stored none seed n K scheduled.journal run is.run.run seeded is.seeded;
+    },
+  );
+  kept = keeps;
+  pictured = subst (IsPictureOf W scheduled.journal) (sym picture) is.pictured;
+  counted = steps ∙ is.counted;
+}

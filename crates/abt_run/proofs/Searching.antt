@@ -20,7 +20,7 @@ use Rattle.abt_run.specs.Given.{Given, IsReadFrom}
 use Rattle.abt_run.specs.Printed.{Prints}
 use Rattle.abt_run.specs.declared.keeping.Keep.{Keep}
 use Rattle.abt_run.specs.declared.status.Conclusion.{Conclusion}
-use Rattle.abt_run.specs.declared.status.Conclusion.TheVariants.{Ended, Judged, Flows, NotConfluent, Undefined, Finishes, Sticks, GoesOn, Unexplored, Helps, NamesVersion}
+use Rattle.abt_run.specs.declared.status.Conclusion.TheVariants.{Ended, Judged, Ends, Followed, Strays, Flows, NotConfluent, Undefined, Finishes, Sticks, GoesOn, Unexplored, Helps, NamesVersion}
 
 -- Conclusions.
 
@@ -28,6 +28,9 @@ use Rattle.abt_run.specs.declared.status.Conclusion.TheVariants.{Ended, Judged, 
 abbrev IsOnEnds : Conclusion → Type 0
 IsOnEnds (Ended o) = ⊥
 IsOnEnds (Judged v) = ⊥
+IsOnEnds (Ends o) = ⊥
+IsOnEnds (Followed o) = ⊥
+IsOnEnds (Strays at) = ⊥
 IsOnEnds Flows = ⊥
 IsOnEnds NotConfluent = ⊥
 IsOnEnds Undefined = ⊥
@@ -69,6 +72,9 @@ module _ (g : Given) (keep : Keep) (J : Option (List Event)) (none : J ≡ None)
   prints-ends : (c : Conclusion) (text : Text) → IsOnEnds c → ShowsEnds g c text → Prints g keep c J text
   prints-ends (Ended o) text on shows = absurd on
   prints-ends (Judged v) text on shows = absurd on
+  prints-ends (Ends o) text on shows = absurd on
+  prints-ends (Followed o) text on shows = absurd on
+  prints-ends (Strays at) text on shows = absurd on
   prints-ends Flows text on shows = absurd on
   prints-ends NotConfluent text on shows = absurd on
   prints-ends Undefined text on shows = absurd on

@@ -68,7 +68,7 @@ one-number : (f : Format) (asked : Option ℕ) (m n : ℕ) → LetsMake f asked 
 one-number f None m n one two = one ∙ sym two
 one-number f (Some steps) m n one two = one.0 ∙ sym two.0
 
-same-number : (told : Option Text) (bytes : Text) (asked : Option ℕ) (m n : ℕ) → told ≡ Some bytes → LetsStreams told asked m → LetsStreams told asked n → m ≡ n
+pub same-number : (told : Option Text) (bytes : Text) (asked : Option ℕ) (m n : ℕ) → told ≡ Some bytes → LetsStreams told asked m → LetsStreams told asked n → m ≡ n
 same-number told bytes asked m n seen one two =
     let same : one.format ≡ two.format = one-format told bytes seen one.format two.format one.its two.its in
     one-number two.format asked m n (subst (λ (f : Format). LetsMake f asked m) same one.lets) two.lets
@@ -109,6 +109,10 @@ pub flow-asks-none : (g : Given) (file : Text) → Says g.words (command.Flow fi
 flow-asks-none g file says beyond = run-is-no-flow _ file (one-command g.words (command.Run beyond.asked) (command.Flow file) beyond.says says)
 
 -- Reasons to stop.
+
+-- a workload that is not run, though the words ask for no steps, is none
+pub no-run-no-workload : (told : Option Text) (faults : ℕ × ℕ) (s : Stop) → HasNoRun told None faults s → HasNoWorkload told faults s
+no-run-no-workload told faults = stops-more (Exceeds told None) ⊥ ⊤ ⊤ (IsNoWorkload told) (IsNoWorkload told) faults faults (λ beyond. beyond.many) (λ known. known) (λ line w no. no) (λ grew. grew)
 
 -- bytes that were not read have no line
 pub unread-no-line : (faults : ℕ × ℕ) (s : Stop) → Unread faults s → StopsAtNoLine faults s

@@ -1,12 +1,16 @@
 -- What each status says about what a call of the program left, and when it comes.
 use Rattle.std.specs.Prelude.{◌≡◌, ◌≢◌, ◌≤◌, ◌⊎◌, ℕ, List, Option, Some, None}
 use Rattle.abt_machine.specs.declared.events.Event.{Event}
+use Rattle.abt_machine.specs.declared.events.Outcome.{Outcome}
 use Rattle.abt_machine.specs.declared.events.Piece.{Piece}
 use Rattle.abt_machine.specs.declared.workload.Parts.{Parts}
 use Rattle.abt_machine.specs.Grammar.{Reads}
+use Rattle.abt_machine.specs.Outcomes.{EndsAs}
+use Rattle.abt_machine.specs.Stored.{Stored}
 use Rattle.abt_machine.specs.Words.{Text}
 use Rattle.abt_bounds.specs.Laws.{HasNoRevive, ops_in}
 use Rattle.abt_check.specs.Verdicts.{IsStampedRun}
+use Rattle.abt_drain.specs.Looks.{EndsWith}
 use Rattle.abt_flow.specs.Confluent.{Confluent}
 use Rattle.abt_flow.specs.Flow.{IsFlow}
 use Rattle.abt_generate.specs.Generated.{generated}
@@ -18,12 +22,14 @@ use Rattle.abt_words.specs.declared.commands.CheckWords.{CheckWords}
 use Rattle.abt_words.specs.declared.commands.Command.{Command}
 use Rattle.abt_words.specs.declared.commands.Command.TheVariants as command
 use Rattle.abt_words.specs.declared.commands.RunWords.{RunWords}
+use Rattle.abt_words.specs.declared.commands.Shows.{Shows}
+use Rattle.abt_words.specs.declared.commands.Shows.TheVariants as show
 use Rattle.abt_words.specs.Commands.{Says}
 use Rattle.abt_run.specs.Given.{Given, SaysNothing, Tells, workload_file}
 use Rattle.abt_run.specs.Prepared.{StopsCommand}
 use Rattle.abt_run.specs.Printed.{Prints}
-use Rattle.abt_run.specs.Status.{name, number_of_conclusion}
-use Rattle.abt_run.specs.Steps.{AsksBeyond, ExceedsKnown, MayMake}
+use Rattle.abt_run.specs.Status.{name, number_of_conclusion, number_of_end}
+use Rattle.abt_run.specs.Steps.{AsksBeyond, ExceedsKnown, LetsStreams, MayMake}
 use Rattle.abt_run.specs.declared.keeping.Keep.{Keep}
 use Rattle.abt_run.specs.declared.status.Conclusion.{Conclusion}
 
@@ -76,10 +82,26 @@ IsComplete n c = (command : Command) (W : Parts) → Says c.given.words command 
 abbrev pub Decides : ℕ → Type 0 → Type 0
 Decides n P = (P × (n ≡ 0)) ⊎ ((P → ⊥) × (n ≡ 1))
 
--- if a workload and a journal are known, and no fault comes, the status says whether the journal is a run of the workload with stamps
+-- the journal ended, if each stream may make n steps
+abbrev pub HasEnded : Parts → ℕ → List Event → Type 0
+HasEnded W n J = (o : Outcome) × EndsAs W n J o
+
+-- the journal is a stamped run whose streams may make `steps` steps each, and n is the status of its end; or it is none, and n is 3
+abbrev pub FollowsJournal : ℕ → Parts → Stored → ℕ → List Event → Type 0
+FollowsJournal n W Z steps J = (IsStampedRun W Z J × ((end : Option Outcome) × EndsWith W steps J end × (n ≡ number_of_end end))) ⊎ ((IsStampedRun W Z J → ⊥) × (n ≡ 3))
+
+-- the status says whether the journal is a run of W with stamps; whether it is one that ended, if the end is shown; or how it ended, if the
+-- report is. Each stream may make as many steps as the workload's file, whose bytes are observable, lets it
+abbrev pub JudgesBy : Shows → ℕ → Option Text → Parts → Stored → List Event → Type 0
+JudgesBy show.Verdict n told W Z J = Decides n (IsStampedRun W Z J)
+JudgesBy show.End n told W Z J = (steps : ℕ) → LetsStreams told None steps → Decides n (IsStampedRun W Z J × HasEnded W steps J)
+JudgesBy (show.Report why) n told W Z J = (steps : ℕ) → LetsStreams told None steps → FollowsJournal n W Z steps J
+
+-- if a workload and a journal are known, and no fault comes, the status judges the journal
 abbrev pub ChecksJournals : ℕ → Call → Type 0
 ChecksJournals n c = (w : CheckWords) (W : Parts) (J : List Event) → Says c.given.words (command.Check w)
-    → Tells c.given w.workload (λ bytes. Reads bytes W) → Tells c.given w.journal (IsTextOf J) → IsStill c.left → Decides n (IsStampedRun W c.given.stored J) ⊎ (n ≡ 7)
+    → Tells c.given w.workload (λ bytes. Reads bytes W) → Tells c.given w.journal (IsTextOf J) → IsStill c.left
+    → JudgesBy w.shows n (c.given.file w.workload) W c.given.stored J ⊎ (n ≡ 7)
 
 -- if a workload is known, and no fault comes, the status says whether it is confluent and has a flow
 abbrev pub FindsFlows : ℕ → Call → Type 0

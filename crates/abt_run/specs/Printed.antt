@@ -1,22 +1,24 @@
 -- What the command of a call prints, by what it came to.
-use Rattle.std.specs.Prelude.{◌≡◌, ◌<◌, ◌+◌, ◌^◌, ℕ, suc, ◌++◌, ◌⊎◌, if◌then◌else◌, Bool, true, List, [], Option, Some, None, codes, decimal}
+use Rattle.std.specs.Prelude.{◌≡◌, ◌<◌, ◌+◌, ◌^◌, ℕ, suc, ◌++◌, ◌∷◌, ◌⊎◌, if◌then◌else◌, Bool, true, List, [], Option, Some, None, codes, decimal}
 use Rattle.abt_machine.specs.declared.events.Event.{Event}
 use Rattle.abt_machine.specs.declared.events.Outcome.{Outcome}
 use Rattle.abt_machine.specs.declared.events.Piece.{Piece}
 use Rattle.abt_machine.specs.declared.workload.Parts.{Parts}
 use Rattle.abt_machine.specs.Outcomes.{steps_in}
-use Rattle.abt_machine.specs.Runs.{last_state}
+use Rattle.abt_machine.specs.Runs.{Run as IsRun, last_state}
 use Rattle.abt_machine.specs.State.{State}
 use Rattle.abt_machine.specs.Stored.{Stored}
-use Rattle.abt_machine.specs.Texts.{journal_text, report_text, short_text}
-use Rattle.abt_machine.specs.Words.{Text}
+use Rattle.abt_machine.specs.Texts.{journal_text, outcome_words, report_text, short_text}
+use Rattle.abt_machine.specs.Words.{Text, ended, line_of}
+use Rattle.abt_bounds.specs.Laws.{HasNoFree}
 use Rattle.abt_check.specs.declared.verdict.Verdict.{Verdict}
 use Rattle.abt_check.specs.declared.verdict.Verdict.TheVariants as verdict
-use Rattle.abt_check.specs.Verdicts.{IsJudged}
+use Rattle.abt_check.specs.Verdicts.{IsJudged, IsRunUpTo, IsStampedRun}
 use Rattle.abt_drain.specs.declared.run.Run.{Run}
 use Rattle.abt_drain.specs.Ends.{IsLeftOf}
 use Rattle.abt_drain.specs.InRotation.{IsMadeInRotation}
-use Rattle.abt_drain.specs.Runs.{HasRun}
+use Rattle.abt_drain.specs.Looks.{EndsWith}
+use Rattle.abt_drain.specs.Runs.{HasRun, IsRunOf}
 use Rattle.abt_flow.specs.Confluent.{Confluent}
 use Rattle.abt_flow.specs.Finishing.{IsOrderly}
 use Rattle.abt_flow.specs.Flow.{IsFlow}
@@ -25,20 +27,23 @@ use Rattle.abt_report.specs.Journals.{IsTextOf}
 use Rattle.abt_record.specs.Records.{IsKept}
 use Rattle.abt_report.specs.Outputs.{outputs_text}
 use Rattle.abt_report.specs.Pictures.{IsPictureOf}
+use Rattle.abt_schedule.specs.Seeds.{IsSeeded}
 use Rattle.abt_why.specs.Texts.{why_text}
 use Rattle.abt_words.specs.declared.commands.Command.{Command}
 use Rattle.abt_words.specs.declared.commands.Command.TheVariants as command
 use Rattle.abt_words.specs.declared.commands.Schedule.{Schedule}
 use Rattle.abt_words.specs.declared.commands.Schedule.TheVariants as schedule
+use Rattle.abt_words.specs.declared.commands.Shows.{Shows}
+use Rattle.abt_words.specs.declared.commands.Shows.TheVariants as show
 use Rattle.abt_words.specs.Commands.{Says}
 use Rattle.abt_run.specs.Ends.{ShowsEnds}
 use Rattle.abt_run.specs.Given.{Compares, Given, IsReadFrom}
 use Rattle.abt_run.specs.Kept.{keeps, needs_journal}
 use Rattle.abt_run.specs.Status.{help_text, version_text}
-use Rattle.abt_run.specs.Steps.{MayMake}
+use Rattle.abt_run.specs.Steps.{LetsStreams, MayMake}
 use Rattle.abt_run.specs.declared.keeping.Keep.{Keep}
 use Rattle.abt_run.specs.declared.status.Conclusion.{Conclusion}
-use Rattle.abt_run.specs.declared.status.Conclusion.TheVariants.{Ended, Judged, Flows, NotConfluent, Undefined, Finishes, Sticks, GoesOn, Unexplored, Helps, NamesVersion}
+use Rattle.abt_run.specs.declared.status.Conclusion.TheVariants.{Ended, Judged, Ends, Followed, Strays, Flows, NotConfluent, Undefined, Finishes, Sticks, GoesOn, Unexplored, Helps, NamesVersion}
 
 -- Runs.
 
@@ -52,24 +57,36 @@ IsFor (command.Explore w) g W = ⊥
 IsFor command.Help g W = ⊥
 IsFor command.Version g W = ⊥
 
+-- the journal is a run by this schedule that ended so. The stamps of a seeded run count its events; others are Lamport's
+abbrev pub HasRunBy : Schedule → Parts → Stored → ℕ → List Event → Outcome → Type 0
+HasRunBy schedule.Threads W Z n J o = HasRun W Z n J o
+HasRunBy schedule.InTurn W Z n J o = HasRun W Z n J o
+HasRunBy (schedule.Seed seed) W Z n J o = IsRunOf W Z n J o
+
+-- it is the run of this seed; there is no other, if no order and no function is free
+pub record IsOfSeed (W : Parts) (Z : Stored) (seed n : ℕ) (J : List Event) : Type 0 where
+  pub seeded : IsSeeded W seed n J
+  pub only : HasNoFree W Z → (K : List Event) → IsRun W Z K → IsSeeded W seed n K → K ≡ J
+
 -- the streams took turns as the schedule says
 abbrev pub TakesTurns : Schedule → Parts → Stored → ℕ → List Event → Type 0
 TakesTurns schedule.Threads W Z n J = Unit {0}
 TakesTurns schedule.InTurn W Z n J = IsMadeInRotation W Z n J
+TakesTurns (schedule.Seed seed) W Z n J = IsOfSeed W Z seed n J
 
 -- what a run leaves is of one journal whose streams took turns so
 abbrev pub LeavesScheduled : Schedule → Parts → Stored → ℕ → Bool → Run → Type 0
-LeavesScheduled s W Z n keeps left = IsLeftOf W keeps (λ J. HasRun W Z n J left.outcome × TakesTurns s W Z n J) left
+LeavesScheduled s W Z n keeps left = IsLeftOf W keeps (λ J. HasRunBy s W Z n J left.outcome × TakesTurns s W Z n J) left
 
--- the streams of a command took turns as its words say
-abbrev pub IsScheduled : Command → Parts → Stored → ℕ → List Event → Type 0
-IsScheduled (command.Run w) W Z n J = TakesTurns w.schedule W Z n J
-IsScheduled (command.SelfRun units) W Z n J = Unit {0}
-IsScheduled (command.Check w) W Z n J = Unit {0}
-IsScheduled (command.Flow file) W Z n J = Unit {0}
-IsScheduled (command.Explore w) W Z n J = Unit {0}
-IsScheduled command.Help W Z n J = Unit {0}
-IsScheduled command.Version W Z n J = Unit {0}
+-- the schedule that a command's words ask for: threads, where none does
+abbrev pub schedule_of : Command → Schedule
+schedule_of (command.Run w) = w.schedule
+schedule_of (command.SelfRun units) = schedule.Threads
+schedule_of (command.Check w) = schedule.Threads
+schedule_of (command.Flow file) = schedule.Threads
+schedule_of (command.Explore w) = schedule.Threads
+schedule_of command.Help = schedule.Threads
+schedule_of command.Version = schedule.Threads
 
 -- what a command prints of a run of W, by its last state, its journal and its outcome: the journal, if it is asked for, the report, and
 -- what units wait for, if that is asked for; or the short report
@@ -97,28 +114,58 @@ pub record Ran (g : Given) (keep : Keep) (answered : Option (List Event)) (o : O
   pub steps : ℕ
   pub may : MayMake command g steps
   pub journal : List Event
-  pub run : HasRun workload g.stored steps journal o
-  pub scheduled : IsScheduled command workload g.stored steps journal
+  pub run : HasRunBy (schedule_of command) workload g.stored steps journal o
+  pub scheduled : TakesTurns (schedule_of command) workload g.stored steps journal
   pub output : text ≡ output_text workload (last_state workload journal) journal o command
   pub kept : IsKept (keeps keep (needs_journal command)) journal answered
 
 -- Verdicts.
 
--- the number of the journal's events has 64 bits
-abbrev pub HasShortCount : Verdict → Type 0
-HasShortCount verdict.Run = Unit {0}
-HasShortCount (verdict.Bad at) = at + 1 < 2 ^ 64
-
 abbrev pub verdict_text : Verdict → Text
 verdict_text verdict.Run = codes "run\n"
 verdict_text (verdict.Bad at) = codes "bad " ++ (decimal (suc at) ++ codes "\n")
 
--- this is the verdict on the journal that the words name
-pub record HasVerdict (g : Given) (v : Verdict) : Type 0 where
+-- how a journal ends, in words: it could go on, or ended so
+abbrev pub end_words : Option Outcome → List Text
+end_words None = codes "open" ∷ []
+end_words (Some o) = outcome_words o
+
+-- what is printed of a run whose end is asked for
+abbrev pub end_text : Option Outcome → Text
+end_text end = codes "run\n" ++ ended (line_of (end_words end))
+
+-- the report of a run that was followed, by its last state, its journal and its outcome; it has none if it could go on
+abbrev pub report_or_open : Parts → State → List Event → Option Outcome → Text
+report_or_open W S J None = codes "open\n"
+report_or_open W S J (Some o) = report_text W S (steps_in J) o
+
+-- what is printed of it: that, and what units wait for, if that is asked for
+abbrev pub followed_text : Parts → State → List Event → Option Outcome → Bool → Text
+followed_text W S J end why = report_or_open W S J end ++ (if why then why_text W S else [])
+
+-- the journal is a stamped run whose streams may make n steps each, and it ended so, or could go on
+abbrev pub LeadsTo : Parts → Stored → ℕ → List Event → Option Outcome → Type 0
+LeadsTo W Z n J end = IsStampedRun W Z J × EndsWith W n J end
+
+-- what is shown of a journal of W, if its streams may make n steps each: the verdict; or the end, unless it is no run; or the report, by
+-- the same rule
+abbrev pub ShowsJudged : Shows → Parts → Stored → ℕ → List Event → Conclusion → Text → Type 0
+ShowsJudged show.Verdict W Z n J c text = (v : Verdict) × (c ≡ Judged v) × IsJudged W Z J v × (text ≡ verdict_text v)
+ShowsJudged show.End W Z n J c text =
+    ((at : ℕ) × (c ≡ Judged (verdict.Bad at)) × IsRunUpTo W Z J at × (text ≡ verdict_text (verdict.Bad at)))
+    ⊎ ((end : Option Outcome) × (c ≡ Ends end) × LeadsTo W Z n J end × (text ≡ end_text end))
+ShowsJudged (show.Report why) W Z n J c text =
+    ((at : ℕ) × (c ≡ Strays at) × IsRunUpTo W Z J at × (text ≡ verdict_text (verdict.Bad at)))
+    ⊎ ((end : Option Outcome) × (c ≡ Followed end) × LeadsTo W Z n J end × (text ≡ followed_text W (last_state W J) J end why))
+
+-- this is shown of the journal that the words name
+pub record HasJudged (g : Given) (c : Conclusion) (text : Text) : Type 0 where
   pub workload : Parts
   pub journal : List Event
   pub compares : Compares g workload (IsTextOf journal)
-  pub judged : IsJudged workload g.stored journal v
+  pub steps : ℕ
+  pub lets : LetsStreams (g.file compares.asked.workload) None steps
+  pub shown : ShowsJudged compares.asked.shows workload g.stored steps journal c text
 
 -- Flows.
 
@@ -158,7 +205,10 @@ pub record HasNoFlow (g : Given) : Type 0 where
 -- the command was carried out and came to this, the call answers this journal or none, and the command prints the text
 abbrev pub Prints : Given → Keep → Conclusion → Option (List Event) → Text → Type 0
 Prints g keep (Ended o) answered text = Ran g keep answered o text
-Prints g keep (Judged v) answered text = HasVerdict g v × (text ≡ verdict_text v) × (answered ≡ None)
+Prints g keep (Judged v) answered text = HasJudged g (Judged v) text × (answered ≡ None)
+Prints g keep (Ends end) answered text = HasJudged g (Ends end) text × (answered ≡ None)
+Prints g keep (Followed end) answered text = HasJudged g (Followed end) text × (answered ≡ None)
+Prints g keep (Strays at) answered text = HasJudged g (Strays at) text × (answered ≡ None)
 Prints g keep Flows answered text = HasFlow g text × (answered ≡ None)
 Prints g keep NotConfluent answered text = IsNotConfluent g × (text ≡ codes "not confluent\n") × (answered ≡ None)
 Prints g keep Undefined answered text = HasNoFlow g × (text ≡ codes "undefined\n") × (answered ≡ None)

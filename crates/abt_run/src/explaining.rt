@@ -16,7 +16,7 @@ use std::alloc::Global;
 
 // The program's words.
 const HELP: &[u8] =
-    b"abtrun run FILE [--steps V] [--journal] [--why] [--in-turn]\nabtrun self N\nabtrun check WORKLOAD JOURNAL\nabtrun flow FILE\nabtrun explore FILE [--states M] [--end K [--journal]]\nabtrun --help\nabtrun --version\n";
+    b"abtrun run FILE [--steps V] [--journal] [--why] [--in-turn | --seed N]\nabtrun run FILE --schedule JOURNAL [--why]\nabtrun self N\nabtrun check WORKLOAD JOURNAL [--end]\nabtrun flow FILE\nabtrun explore FILE [--states M] [--end K [--journal]]\nabtrun --help\nabtrun --version\n";
 
 // The program's version.
 const VERSION: &[u8] = b"abtrun 1\n";

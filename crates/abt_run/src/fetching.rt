@@ -36,7 +36,7 @@ pub fn fetch<F: Files>(alloc: Global, file: &str, files: &mut F) -> Result<Workl
 /// # Errors
 ///
 /// `BadWords` if the format of the text allows fewer; then the text is not read further. Otherwise as `fetch`.
-pub(crate) fn fetch_run<F: Files>(
+pub fn fetch_run<F: Files>(
     alloc: Global,
     file: &str,
     asked: Option<u64>,
@@ -48,6 +48,8 @@ pub(crate) fn fetch_run<F: Files>(
     ensures exceeds { ExceedsKnown (F.file files.old file.now) asked → IsErrAnd result (StopsAtNoLine (F.faults files.old, F.faults files.new)) }
     ensures absent { F.absent files.old file.now → IsErrOf result CannotRead }
     ensures faulty { F.faults files.new ≢ F.faults files.old → IsErrOf result CannotRead }
+    ensures same { (name : List ℕ) → F.file files.new name ≡ F.file files.old name }
+    ensures missing { (name : List ℕ) → F.absent files.old name → F.absent files.new name }
     ensures later { F.faults files.old ≤ F.faults files.new }
 {
     let bytes = bytes_of(alloc, file, files, Format::Three.text_limit())?;

@@ -12,7 +12,7 @@ mod program;
 mod running;
 mod status;
 
-pub use fetching::fetch;
+pub use fetching::{fetch, fetch_run};
 pub use keeping::Keep;
 pub use program::{Answer, abtrun};
 pub use status::{Conclusion, NAME};

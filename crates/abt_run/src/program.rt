@@ -87,6 +87,7 @@ fn prepare<R: Threads + Wait + Sync, F: Files, P: Work + Sync>(
                 alloc,
                 asked.workload.as_str(),
                 asked.journal.as_str(),
+                asked.shows,
                 files,
                 work,
                 orders,
@@ -115,17 +116,20 @@ fn prepare<R: Threads + Wait + Sync, F: Files, P: Work + Sync>(
 /// What the command of the program does. `run` reads the file and the workload in it, runs the workload, and writes the run's journal, if
 /// `--journal` asks for it, its report, and what units wait for, if `--why` asks for that; `self` runs the workload that it makes of a
 /// number, and writes the short report; `check` reads a workload and a journal, and writes whether that is a run of it with stamps, or
-/// otherwise its first line at which it is not one; `flow` writes what each unit of a workload puts out, if that does not depend on the
-/// schedule, and whether each run finishes; `explore` writes each way in which a workload can end, or one of them, and a journal that leads
-/// to it, if `--journal` asks for it; `--help` and `--version` write what the program says of itself. The words are those after the
-/// program's name. User schedulers name the stored orders by number.
+/// otherwise its first line at which it is not one, and how the run ended, if `--end` asks for it; `run` with `--schedule` writes the
+/// report of such a journal; `flow` writes what each unit of a workload puts out, if that does not depend on the schedule, and whether
+/// each run finishes; `explore` writes each way in which a workload can end, or one of them, and a journal that leads to it, if `--journal`
+/// asks for it; `--help` and `--version` write what the program says of itself. The words are those after the program's name. User
+/// schedulers name the stored orders by number.
 ///
-/// Each stream runs on a thread of its own, as far as threads can be started, or with `--in-turn` all on the caller's in rotation;
-/// `work` is called before each step and has the functions that units call, all outside every lock.
+/// Each stream runs on a thread of its own, as far as threads can be started, or all on the caller's: with `--in-turn` in rotation, and
+/// with `--seed` in rotations whose orders the seed draws. `work` is called before each step, but not of a seeded run, and has the
+/// functions that units call, all outside every lock.
 ///
 /// Exit statuses: 0 finished, 1 stuck, 2 bad command line, also if it asks for more steps than the format of the file allows, 3 a file
 /// is refused, 4 a stream made all the steps that it may make, 5 cannot read, 6 cannot write, 7 out of memory; `check` ends with 0 if
-/// the journal is a run and with 1 if it is not, `flow` with 0 if there is a flow and with 1 if there is none, and `explore` with 0 if
+/// the journal is a run, which ended if `--end` asks for its end, and with 1 otherwise, `run` with `--schedule` with 3 if the journal is
+/// no run and with 8 if it could go on, `flow` with 0 if there is a flow and with 1 if there is none, and `explore` with 0 if
 /// each end is finished, 1 if one is stuck, 4 if there is none, and 8 if the workload was not searched whole. The answer has the
 /// journal of the run that was made, if `keep` asks for it, and otherwise none.
 pub fn abtrun<R: Threads + Wait + Sync, F: Files, K: Sink, E: Sink, P: Work + Sync>(

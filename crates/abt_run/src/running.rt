@@ -8,10 +8,12 @@ ghost use Rattle.abt_machine.specs.Stored.{CallsStored};
 ghost use Rattle.abt_machine.specs.Texts.{journal_text as text_of_journal};
 ghost use Rattle.abt_machine.specs.Words.{Text};
 ghost use Rattle.abt_order.specs.Stored.{stored_of};
+ghost use Rattle.abt_record.specs.Records.{IsKept};
 ghost use Rattle.abt_report.specs.Pictures.{SaysWordsOf};
 ghost use Rattle.abt_words.specs.Commands.{Says};
 ghost use Rattle.abt_words.specs.declared.commands.Command.TheVariants as command;
 ghost use Rattle.abt_words.specs.declared.commands.RunWords.{RunWords};
+ghost use Rattle.abt_words.specs.declared.commands.Schedule.TheVariants as schedule;
 ghost use Rattle.abt_why.specs.Texts.{why_text};
 ghost use Rattle.abt_run.specs.Given.{given};
 ghost use Rattle.abt_run.specs.Kept.{either};
@@ -31,6 +33,7 @@ use abt_generate::generate;
 use abt_machine::{Want, Workload};
 use abt_order::StoredOrder;
 use abt_report::{append_report, journal_text, short_report};
+use abt_schedule::{Scheduled, run_seeded};
 use abt_shell::Stop;
 use abt_source::Files;
 use abt_waves::run_streams;
@@ -123,6 +126,47 @@ fn run_by<R: Threads + Wait + Sync, P: Work + Sync>(
             Ok(ran)
         }
         Schedule::InTurn => drain_with(alloc, w, orders, work, steps, keeps),
+        Schedule::Seed(seed) => run_by_seed(alloc, w, orders, work, seed, steps, keeps),
+    }
+}
+
+// The run of a workload by a seed.
+fn run_by_seed<P: Work>(
+    alloc: Global,
+    w: &Workload,
+    orders: &[StoredOrder],
+    work: &P,
+    seed: u64,
+    steps: u64,
+    keeps: bool,
+) -> Result<Run, Want>
+    requires orders { 2 ≤ length orders.now }
+    requires calls { CallsStored w.now (P.count work.now) }
+    ensures { IfOk result (LeavesScheduled (schedule.Seed seed) w.now (stored_of orders.now (P.returns work.now)) steps keeps) }
+{
+    w.known();
+    let scheduled = run_seeded(alloc, w, orders, work, seed, steps)?;
+    Ok(kept_run(scheduled, keeps))
+}
+
+// What a run by a seed left, with its journal, if that is kept.
+fn kept_run(scheduled: Scheduled, keeps: bool) -> Run
+    ensures journal { IsKept keeps scheduled.journal result.journal }
+    ensures picture { result.picture ≡ scheduled.picture }
+    ensures steps { result.steps ≡ scheduled.steps }
+    ensures outcome { result.outcome ≡ scheduled.outcome }
+{
+    let Scheduled {
+        journal,
+        steps,
+        picture,
+        outcome,
+    } = scheduled;
+    Run {
+        journal: if keeps { Some(journal) } else { None },
+        steps,
+        picture,
+        outcome,
     }
 }
 

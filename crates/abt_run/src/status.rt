@@ -17,6 +17,12 @@ pub enum Conclusion {
     Ended(Outcome),
     /// A journal was judged.
     Judged(Verdict),
+    /// A journal is a run, and it was asked how that ended: so, or, if none is given, it could go on.
+    Ends(Option<Outcome>),
+    /// A journal is a run, which was followed to its end, if one is given, and else to where it could go on.
+    Followed(Option<Outcome>),
+    /// A journal that was followed is no run: `at` is the greatest number of its first events that are one.
+    Strays { at: u64 },
     /// A workload is confluent, and its flow was found.
     Flows,
     /// A workload is not confluent.
@@ -46,6 +52,11 @@ impl Conclusion {
             Conclusion::Ended(outcome) => number_of_outcome(outcome),
             Conclusion::Judged(Verdict::Run) | Conclusion::Flows => 0,
             Conclusion::Judged(Verdict::Bad { at: _ }) => 1,
+            Conclusion::Ends(Some(_)) => 0,
+            Conclusion::Ends(None) => 1,
+            Conclusion::Followed(Some(outcome)) => number_of_outcome(outcome),
+            Conclusion::Followed(None) => 8,
+            Conclusion::Strays { at: _ } => 3,
             Conclusion::NotConfluent | Conclusion::Undefined => 1,
             Conclusion::Finishes => 0,
             Conclusion::Sticks => 1,

@@ -6,6 +6,8 @@ mod changes;
 #[cfg(test)]
 mod checks;
 #[cfg(test)]
+mod seeds;
+#[cfg(test)]
 mod sites;
 #[cfg(test)]
 mod tables;

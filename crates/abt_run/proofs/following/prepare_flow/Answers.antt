@@ -12,4 +12,4 @@ returns-in_err-w-clause-stop g c = λ words stored same says.
 pub flow_text-requires-clause-words : goal.flow_text-requires-clause-words
 flow_text-requires-clause-words g c =
     let flow = rw c.in-Some.is at c.in_ok-flow.ensures in
-    flow-says c.in_ok-w.w _ (subst IsValid c.w.view_is c.w.invariant) c.in-Some.flow flow
+    flow-says c.in_ok-w.w _ (subst IsValid c.w.view_is c.w.invariant.0) c.in-Some.flow flow

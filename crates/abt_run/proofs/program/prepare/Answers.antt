@@ -24,15 +24,15 @@ returns-in-Ok-SelfRun-clause-done g c =
 pub returns-in-Ok-Check-clause-done : goal.returns-in-Ok-Check-clause-done
 returns-in-Ok-Check-clause-done g c =
     c.prepare_check.ensures.done c.args.keep (map string_bytes c.args.words.now)
-    (subst (λ w. Says (map string_bytes c.args.words.now) (command.Check (record { workload = w; journal = c.as_str-in-Ok-Check-2.result.now }))) (sym c.as_str-in-Ok-Check.ensures)
-    (subst (λ j. Says (map string_bytes c.args.words.now) (command.Check (record { workload = c.in-Ok-Check.asked.workload; journal = j }))) (sym c.as_str-in-Ok-Check-2.ensures)
+    (subst (λ w. Says (map string_bytes c.args.words.now) (command.Check (record { workload = w; journal = c.as_str-in-Ok-Check-2.result.now; shows = c.in-Ok-Check.asked.shows }))) (sym c.as_str-in-Ok-Check.ensures)
+    (subst (λ j. Says (map string_bytes c.args.words.now) (command.Check (record { workload = c.in-Ok-Check.asked.workload; journal = j; shows = c.in-Ok-Check.asked.shows }))) (sym c.as_str-in-Ok-Check-2.ensures)
     (subst (Says (map string_bytes c.args.words.now)) c.in-Ok-Check.field-0-is c.in-Ok-Check.ensures.said)))
 
 pub returns-in-Ok-Check-clause-stop : goal.returns-in-Ok-Check-clause-stop
 returns-in-Ok-Check-clause-stop g c =
     c.prepare_check.ensures.stop (map string_bytes c.args.words.now)
-    (subst (λ w. Says (map string_bytes c.args.words.now) (command.Check (record { workload = w; journal = c.as_str-in-Ok-Check-2.result.now }))) (sym c.as_str-in-Ok-Check.ensures)
-    (subst (λ j. Says (map string_bytes c.args.words.now) (command.Check (record { workload = c.in-Ok-Check.asked.workload; journal = j }))) (sym c.as_str-in-Ok-Check-2.ensures)
+    (subst (λ w. Says (map string_bytes c.args.words.now) (command.Check (record { workload = w; journal = c.as_str-in-Ok-Check-2.result.now; shows = c.in-Ok-Check.asked.shows }))) (sym c.as_str-in-Ok-Check.ensures)
+    (subst (λ j. Says (map string_bytes c.args.words.now) (command.Check (record { workload = c.in-Ok-Check.asked.workload; journal = j; shows = c.in-Ok-Check.asked.shows }))) (sym c.as_str-in-Ok-Check-2.ensures)
     (subst (Says (map string_bytes c.args.words.now)) c.in-Ok-Check.field-0-is c.in-Ok-Check.ensures.said)))
 
 pub returns-in-Ok-Flow-clause-done : goal.returns-in-Ok-Flow-clause-done

@@ -5,7 +5,7 @@ use Rattle.abt_record.specs.Records.{IsKept}
 use Rattle.abt_shell.proofs.Fetched.{passed, passed-on}
 use Rattle.abt_machine.specs.Runs.{Run}
 use Rattle.abt_run.specs.Kept.{either, keeps}
-use Rattle.abt_run.proofs.Outputs.{kept-has, shown-in}
+use Rattle.abt_run.proofs.Outputs.{kept-has, run-is-run, shown-in}
 use Rattle.abt_run.proofs.Preparing.{no-run-stops, prints-as}
 use Rattle.abt_run.proofs.Storing.{stores_calls}
 use Rattle.abt_run.proofs.running.prepare_file.Goals as goal
@@ -24,7 +24,8 @@ output-requires-clause-calls g c = stores_calls c.in_ok-w.w _ c.known.ensures c.
 pub output-requires-clause-runs : goal.output-requires-clause-runs
 output-requires-clause-runs g c =
     let left = c.in_ok-ran.ensures in
-    kept-has (Run c.in_ok-w.w _) c.keeps-keeps.result left.events c.in_ok-ran.ran.journal left.kept left.holds.0.run
+    kept-has (Run c.in_ok-w.w _) c.keeps-keeps.result left.events c.in_ok-ran.ran.journal left.kept
+    (run-is-run c.in_ok-w.w _ _ left.events c.in_ok-ran.ran.outcome c.args.schedule left.holds.0)
 
 pub returns-clause-done : goal.returns-clause-done
 returns-clause-done g c = λ words says.

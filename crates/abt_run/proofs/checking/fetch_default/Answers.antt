@@ -1,0 +1,5 @@
+use Rattle.abt_run.proofs.Judging.{fetches-none}
+use Rattle.abt_run.proofs.checking.fetch_default.Goals as goal
+
+pub returns-clause-stop : goal.returns-clause-stop
+returns-clause-stop g c = fetches-none c.fetch_run.result _ _ c.fetch_run.ensures.stop
