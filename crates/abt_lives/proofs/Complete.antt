@@ -1,32 +1,36 @@
 -- Which status a call answers if its cause is at hand.
-use Rattle.std.proofs.Common.{◌≡◌, ◌≢◌, ◌≤◌, ◌⊎◌, ◌∙◌, ℕ, List, length, Some, inl, inr, refl, sym, ap, subst, arith}
-use Rattle.std.specs.Prelude.{IfSome}
-use Rattle.abt_machine.specs.declared.events.Outcome.{Outcome}
+use Rattle.std.proofs.Common.{◌≡◌, ◌≢◌, ◌≤◌, ◌⊎◌, ℕ, List, length, Some, inl, inr, refl, sym, ◌∙◌, subst, arith}
 use Rattle.abt_machine.specs.declared.events.Outcome.TheVariants as outcome
 use Rattle.abt_machine.specs.declared.numbers.StreamNo.{StreamNo}
 use Rattle.abt_machine.specs.declared.workload.Parts.{Parts}
 use Rattle.abt_machine.specs.Grammar.{Reads, Refuses}
 use Rattle.abt_machine.specs.Valid.{IsValid}
 use Rattle.abt_machine.specs.Words.{Text}
-use Rattle.abt_machine.specs.Limits.{default_steps}
 use Rattle.abt_bounds.specs.Laws.{HasNoRevive, ops_in}
 use Rattle.abt_bounds.proofs.Budgets.{steps-bound-budgets}
 use Rattle.abt_outcomes.proofs.Stored.{orders-stored}
 use Rattle.abt_run.specs.Call.{IsOfRun}
 use Rattle.abt_run.proofs.Complete.{no-fault, outcome-is-of-run, reads-whole}
+use Rattle.abt_shell.specs.declared.status.Stop.{Stop}
 use Rattle.abt_shell.specs.declared.status.Stop.TheVariants.{BadWords, BadLine, CannotRead, OutOfMemory}
 use Rattle.abt_shell.specs.declared.status.Wrong.TheVariants.{Workload, Journal, Lives}
 use Rattle.abt_shell.specs.Calls.{EndsBy, HasReadFault, Holds}
-use Rattle.abt_shell.specs.Status.{Status, Concluded, Stopped, CannotWrite, number_of, number_of_outcome}
+use Rattle.abt_shell.specs.Status.{Status, Concluded, Stopped, CannotWrite, number_of}
 use Rattle.abt_shell.specs.Told.{Grew}
 use Rattle.abt_shell.proofs.Calls.{reads-well, writes-well}
 use Rattle.abt_shell.proofs.Fetched.{of-observed}
 use Rattle.abt_streams.specs.declared.life.Life.{Life}
+use Rattle.abt_words.specs.declared.itself.Topic.{Topic}
+use Rattle.abt_words.specs.About.{AsksAbout}
 use Rattle.abt_workload.proofs.RoundTrip.{only-valid}
-use Rattle.abt_lives.specs.Call.{Call, IsAnswered, MissesFiles, MissesLives, NamesFiles, RanOnLives, TellsWorkload, TellsBoth, program}
+use Rattle.abt_run.specs.Prepared.{HasNoRun}
+use Rattle.abt_lives.specs.declared.status.Conclusion.{Conclusion}
+use Rattle.abt_lives.specs.declared.status.Conclusion.TheVariants.{Ended, Explained}
+use Rattle.abt_lives.specs.Asked.{AsksBeyond, AsksNothing, AsksRun, LacksLives, MayMake}
+use Rattle.abt_lives.specs.Call.{Call, IsAnswered, MissesFiles, MissesLives, PrintsLives, RanOnLives, RefusesSteps, TellsWorkload, TellsBoth, program}
 use Rattle.abt_lives.specs.Lives.{ReadsLives, RefusesLives}
-use Rattle.abt_lives.specs.Words.{AsksNothing}
-use Rattle.abt_lives.proofs.Naming.{of-first, of-second, one-workload, same-names}
+use Rattle.abt_lives.specs.Status.{number_of_conclusion}
+use Rattle.abt_lives.proofs.Naming.{not-bad-command, of-first, of-second, one-number, one-workload, run-or-about, same-file}
 
 -- a text of lives is not refused
 not-bad : (W : Parts) (text : Text) (lives : List Life) (line : ℕ) → ReadsLives W text lives → RefusesLives W text line → ⊥
@@ -35,98 +39,151 @@ not-bad W text lives line reads refuses = elim refuses [
   | inr bad ↦ bad.2 lives reads.are reads.text
 ]
 
--- what is known of the first file that the words name
-first-is : (c : Call) (named : NamesFiles c.given.words) (bytes : Text) (other : NamesFiles c.given.words) (P : Text → Type 0) → c.given.file named.workload ≡ Some bytes → IfSome (c.given.file other.workload) P → P bytes
-first-is c named bytes other P seen known = of-observed P (c.given.file other.workload) bytes (ap c.given.file (same-names c.given.words other named).0 ∙ seen) known
+-- the status by its conclusion
+abbrev number : Status Conclusion → ℕ
+number = number_of number_of_conclusion
 
 -- Both texts are right.
 
-runs : (s : Status Outcome) (c : Call) (W : Parts) (text : Text) (lives : List Life) → Holds (program c) c.left s → TellsBoth c W text → ReadsLives W text lives → (Grew c.left.read_faults → ⊥) → (Grew c.left.out_faults → ⊥) →
-    IsOfRun (number_of number_of_outcome s) ⊎ (number_of number_of_outcome s ≡ 7)
-runs (Concluded o) c W text lives h tells reads still quiet = inl (outcome-is-of-run o)
-runs (Stopped OutOfMemory) c W text lives h tells reads still quiet = inr refl
-runs (Stopped BadWords) c W text lives h tells reads still quiet = absurd (h.cause.why tells.first.named.workload tells.first.named.lives tells.first.named.asks)
-runs (Stopped CannotRead) c W text lives h tells reads still quiet = absurd (still h.cause.why.1)
-runs CannotWrite c W text lives h tells reads still quiet = absurd (quiet h.faults)
-runs (Stopped (BadLine line (Workload f))) c W text lives h tells reads still quiet =
-    absurd (reads-whole tells.first.bytes W line f tells.first.reads (of-first c W h.cause.why.named (λ bytes. Refuses bytes line f) tells.first h.cause.why.refuses))
-runs (Stopped (BadLine line Journal)) c W text lives h tells reads still quiet = absurd h.cause.why
-runs (Stopped (BadLine line Lives)) c W text lives h tells reads still quiet =
-    let same : h.cause.why.workload ≡ W = one-workload c W h.cause.why.named h.cause.why.workload tells.first h.cause.why.reads in
-    let refuses : RefusesLives h.cause.why.workload text line = of-second c W h.cause.why.named (λ bytes. RefusesLives h.cause.why.workload bytes line) text tells h.cause.why.refuses in
+runs : (s : Status Conclusion) (c : Call) (W : Parts) (text : Text) (lives : List Life) → Holds (program c) c.left s → TellsBoth c W text → ReadsLives W text lives → (AsksBeyond c.given → ⊥)
+    → (Grew c.left.read_faults → ⊥) → (Grew c.left.out_faults → ⊥) → IsOfRun (number s) ⊎ (number s ≡ 7)
+runs (Concluded (Ended o)) c W text lives h tells reads within still quiet = inl (outcome-is-of-run o)
+runs (Concluded (Explained a)) c W text lives h tells reads within still quiet = absurd (run-or-about c.given.words tells.first.run a h.prints.0)
+runs (Stopped OutOfMemory) c W text lives h tells reads within still quiet = inr refl
+runs (Stopped BadWords) c W text lives h tells reads within still quiet = absurd (not-bad-command c.given tells.first.run within h.cause.why)
+runs (Stopped CannotRead) c W text lives h tells reads within still quiet = absurd (still h.cause.why.1)
+runs CannotWrite c W text lives h tells reads within still quiet = absurd (quiet h.faults)
+runs (Stopped (BadLine line (Workload f))) c W text lives h tells reads within still quiet =
+    absurd (reads-whole tells.first.bytes W line f tells.first.reads (of-first c W h.cause.why.run (λ bytes. Refuses bytes line f) tells.first h.cause.why.refuses))
+runs (Stopped (BadLine line Journal)) c W text lives h tells reads within still quiet = absurd h.cause.why
+runs (Stopped (BadLine line Lives)) c W text lives h tells reads within still quiet =
+    let same : h.cause.why.workload ≡ W = one-workload c W h.cause.why.run h.cause.why.workload tells.first h.cause.why.reads in
+    let refuses : RefusesLives h.cause.why.workload text line = of-second c W h.cause.why.run (λ bytes. RefusesLives h.cause.why.workload bytes line) text tells h.cause.why.refuses in
     absurd (not-bad W text lives line reads (subst (λ (V : Parts). RefusesLives V text line) same refuses))
 
 -- The second is wrong.
 
 -- what ran are lives
-ran-lives : (c : Call) (W : Parts) (text : Text) (o : Outcome) (printed : Text) → RanOnLives c.given c.journal o printed → TellsBoth c W text → ((lives : List Life) → ReadsLives W text lives → ⊥) → ⊥
-ran-lives c W text o printed ran tells none =
-    let same : ran.workload ≡ W = one-workload c W ran.named ran.workload tells.first ran.reads in
-    none ran.run.lives (subst (λ (V : Parts). ReadsLives V text ran.run.lives) same (of-second c W ran.named (λ bytes. ReadsLives ran.workload bytes ran.run.lives) text tells ran.run.reads))
+none-ran : (k : Conclusion) (c : Call) (W : Parts) (text printed : Text) → PrintsLives c.given c.journal k printed → TellsBoth c W text → ((lives : List Life) → ReadsLives W text lives → ⊥) → ⊥
+none-ran (Ended o) c W text printed ran tells none =
+    let same : ran.workload ≡ W = one-workload c W ran.asks ran.workload tells.first ran.reads in
+    none ran.run.lives (subst (λ (V : Parts). ReadsLives V text ran.run.lives) same (of-second c W ran.asks (λ bytes. ReadsLives ran.workload bytes ran.run.lives) text tells ran.run.reads))
+none-ran (Explained a) c W text printed prints tells none = run-or-about c.given.words tells.first.run a prints.0
 
-refuses-lives : (s : Status Outcome) (c : Call) (W : Parts) (text : Text) → Holds (program c) c.left s → TellsBoth c W text → ((lives : List Life) → ReadsLives W text lives → ⊥) → (Grew c.left.read_faults → ⊥) → (number_of number_of_outcome s ≡ 3) ⊎ (number_of number_of_outcome s ≡ 7)
-refuses-lives (Concluded o) c W text h tells none still = absurd (ran-lives c W text o h.text h.prints tells none)
-refuses-lives CannotWrite c W text h tells none still = absurd (ran-lives c W text h.conclusion h.text h.prints tells none)
-refuses-lives (Stopped BadWords) c W text h tells none still = absurd (h.cause.why tells.first.named.workload tells.first.named.lives tells.first.named.asks)
-refuses-lives (Stopped (BadLine line w)) c W text h tells none still = inl refl
-refuses-lives (Stopped CannotRead) c W text h tells none still = absurd (still h.cause.why.1)
-refuses-lives (Stopped OutOfMemory) c W text h tells none still = inr refl
+refuses-lives : (s : Status Conclusion) (c : Call) (W : Parts) (text : Text) → Holds (program c) c.left s → TellsBoth c W text → ((lives : List Life) → ReadsLives W text lives → ⊥) → (AsksBeyond c.given → ⊥)
+    → (Grew c.left.read_faults → ⊥) → (number s ≡ 3) ⊎ (number s ≡ 7)
+refuses-lives (Concluded k) c W text h tells none within still = absurd (none-ran k c W text h.text h.prints tells none)
+refuses-lives CannotWrite c W text h tells none within still = absurd (none-ran h.conclusion c W text h.text h.prints tells none)
+refuses-lives (Stopped BadWords) c W text h tells none within still = absurd (not-bad-command c.given tells.first.run within h.cause.why)
+refuses-lives (Stopped (BadLine line w)) c W text h tells none within still = inl refl
+refuses-lives (Stopped CannotRead) c W text h tells none within still = absurd (still h.cause.why.1)
+refuses-lives (Stopped OutOfMemory) c W text h tells none within still = inr refl
 
 -- The first is wrong.
 
-refuses : (s : Status Outcome) (c : Call) (named : NamesFiles c.given.words) (bytes : Text) → Holds (program c) c.left s → c.given.file named.workload ≡ Some bytes → ((W : Parts) → Reads bytes W → ⊥) → (Grew c.left.read_faults → ⊥) → (number_of number_of_outcome s ≡ 3) ⊎ (number_of number_of_outcome s ≡ 7)
-refuses (Concluded o) c named bytes h seen none still = absurd (none h.prints.workload (first-is c named bytes h.prints.named (λ text. Reads text h.prints.workload) seen h.prints.reads))
-refuses CannotWrite c named bytes h seen none still = absurd (none h.prints.workload (first-is c named bytes h.prints.named (λ text. Reads text h.prints.workload) seen h.prints.reads))
-refuses (Stopped BadWords) c named bytes h seen none still = absurd (h.cause.why named.workload named.lives named.asks)
-refuses (Stopped (BadLine line w)) c named bytes h seen none still = inl refl
-refuses (Stopped CannotRead) c named bytes h seen none still = absurd (still h.cause.why.1)
-refuses (Stopped OutOfMemory) c named bytes h seen none still = inr refl
+none-read : (k : Conclusion) (c : Call) (run : AsksRun c.given.words) (bytes printed : Text) → PrintsLives c.given c.journal k printed → c.given.file run.asked.workload ≡ Some bytes
+    → ((W : Parts) → Reads bytes W → ⊥) → ⊥
+none-read (Ended o) c run bytes printed ran seen none =
+    none ran.workload (of-observed (λ text. Reads text ran.workload) (c.given.file ran.asks.asked.workload) bytes (same-file c.given.words c.given.file ran.asks run ∙ seen) ran.reads)
+none-read (Explained a) c run bytes printed prints seen none = run-or-about c.given.words run a prints.0
+
+refuses : (s : Status Conclusion) (c : Call) (run : AsksRun c.given.words) (bytes : Text) → Holds (program c) c.left s → c.given.file run.asked.workload ≡ Some bytes → ((W : Parts) → Reads bytes W → ⊥)
+    → (AsksBeyond c.given → ⊥) → (Grew c.left.read_faults → ⊥) → (number s ≡ 3) ⊎ (number s ≡ 7)
+refuses (Concluded k) c run bytes h seen none within still = absurd (none-read k c run bytes h.text h.prints seen none)
+refuses CannotWrite c run bytes h seen none within still = absurd (none-read h.conclusion c run bytes h.text h.prints seen none)
+refuses (Stopped BadWords) c run bytes h seen none within still = absurd (not-bad-command c.given run within h.cause.why)
+refuses (Stopped (BadLine line w)) c run bytes h seen none within still = inl refl
+refuses (Stopped CannotRead) c run bytes h seen none within still = absurd (still h.cause.why.1)
+refuses (Stopped OutOfMemory) c run bytes h seen none within still = inr refl
 
 -- The words are wrong.
 
-refuses-words : (s : Status Outcome) (c : Call) → Holds (program c) c.left s → AsksNothing c.given.words → (number_of number_of_outcome s ≡ 2) ⊎ (number_of number_of_outcome s ≡ 7)
-refuses-words (Concluded o) c h none = absurd (none h.prints.named.workload h.prints.named.lives h.prints.named.asks)
-refuses-words CannotWrite c h none = absurd (none h.prints.named.workload h.prints.named.lives h.prints.named.asks)
+asks-something : (k : Conclusion) (c : Call) (printed : Text) → PrintsLives c.given c.journal k printed → AsksNothing c.given.words → ⊥
+asks-something (Ended o) c printed ran none = none.0 ran.asks.asked ran.asks.says
+asks-something (Explained a) c printed prints none = none.1 a prints.0
+
+refuses-words : (s : Status Conclusion) (c : Call) → Holds (program c) c.left s → AsksNothing c.given.words → (number s ≡ 2) ⊎ (number s ≡ 7)
+refuses-words (Concluded k) c h none = absurd (asks-something k c h.text h.prints none)
+refuses-words CannotWrite c h none = absurd (asks-something h.conclusion c h.text h.prints none)
 refuses-words (Stopped BadWords) c h none = inl refl
-refuses-words (Stopped (BadLine line (Workload f))) c h none = absurd (none h.cause.why.named.workload h.cause.why.named.lives h.cause.why.named.asks)
+refuses-words (Stopped (BadLine line (Workload f))) c h none = absurd (none.0 h.cause.why.run.asked h.cause.why.run.says)
 refuses-words (Stopped (BadLine line Journal)) c h none = absurd h.cause.why
-refuses-words (Stopped (BadLine line Lives)) c h none = absurd (none h.cause.why.named.workload h.cause.why.named.lives h.cause.why.named.asks)
-refuses-words (Stopped CannotRead) c h none = absurd (none h.cause.why.0.workload h.cause.why.0.lives h.cause.why.0.asks)
+refuses-words (Stopped (BadLine line Lives)) c h none = absurd (none.0 h.cause.why.run.asked h.cause.why.run.says)
+refuses-words (Stopped CannotRead) c h none = absurd (none.0 h.cause.why.0.asked h.cause.why.0.says)
 refuses-words (Stopped OutOfMemory) c h none = inr refl
+
+-- They ask about the program.
+
+explains : (s : Status Conclusion) (c : Call) (a : Topic) → Holds (program c) c.left s → AsksAbout c.given.words a → (Grew c.left.out_faults → ⊥) → (number s ≡ 0) ⊎ (number s ≡ 7)
+explains (Concluded (Ended o)) c a h asks quiet = absurd (run-or-about c.given.words h.prints.asks a asks)
+explains (Concluded (Explained b)) c a h asks quiet = inl refl
+explains CannotWrite c a h asks quiet = absurd (quiet h.faults)
+explains (Stopped BadWords) c a h asks quiet = absurd (elim h.cause.why [ inl none ↦ none.1 a asks | inr beyond ↦ run-or-about c.given.words beyond.run a asks ])
+explains (Stopped (BadLine line (Workload f))) c a h asks quiet = absurd (run-or-about c.given.words h.cause.why.run a asks)
+explains (Stopped (BadLine line Journal)) c a h asks quiet = absurd h.cause.why
+explains (Stopped (BadLine line Lives)) c a h asks quiet = absurd (run-or-about c.given.words h.cause.why.run a asks)
+explains (Stopped CannotRead) c a h asks quiet = absurd (run-or-about c.given.words h.cause.why.0 a asks)
+explains (Stopped OutOfMemory) c a h asks quiet = inr refl
 
 -- Steps.
 
-no-budget : (c : Call) (W : Parts) (s : StreamNo) (printed : Text) → 2 ≤ length c.given.stored.orders → TellsWorkload c W → HasNoRevive W → ops_in W ≤ default_steps → RanOnLives c.given c.journal (outcome.Budget s) printed → ⊥
-no-budget c W s printed two tells none few ran =
-    let is : ran.workload ≡ W = one-workload c W ran.named ran.workload tells ran.reads in
-    let sound : IsValid ran.workload = subst IsValid (sym is) (only-valid tells.bytes W tells.reads) in
-    steps-bound-budgets ran.workload c.given.stored sound (orders-stored ran.workload c.given.stored sound two) (subst HasNoRevive (sym is) none) default_steps s.0 c.journal (subst (λ (V : Parts). ops_in V ≤ default_steps) (sym is) few) ran.run.run.run
-    ran.run.run.ended.0
+module _ (c : Call) (W : Parts) (two : 2 ≤ length c.given.stored.orders) (tells : TellsWorkload c W) (steps : ℕ) (may : MayMake (c.given.file tells.run.asked.workload) tells.run.asked.steps steps)
+    (none : HasNoRevive W) (few : ops_in W ≤ steps) where
+  no-budget : (s : StreamNo) (printed : Text) → RanOnLives c.given c.journal (outcome.Budget s) printed → ⊥
+  no-budget s printed ran =
+      let is : ran.workload ≡ W = one-workload c W ran.asks ran.workload tells ran.reads in
+      let sound : IsValid ran.workload = subst IsValid (sym is) (only-valid tells.bytes W tells.reads) in
+      let count : ran.steps ≡ steps = one-number c W ran.asks tells ran.steps steps ran.may may in
+      let most : ops_in ran.workload ≤ ran.steps = subst (λ (n : ℕ). ops_in ran.workload ≤ n) (sym count) (subst (λ (V : Parts). ops_in V ≤ steps) (sym is) few) in
+      steps-bound-budgets ran.workload c.given.stored sound (orders-stored ran.workload c.given.stored sound two) (subst HasNoRevive (sym is) none) ran.steps s.0 c.journal most ran.run.run.run
+      ran.run.run.ended.0
 
-spends : (s : Status Outcome) (c : Call) (W : Parts) → Holds (program c) c.left s → 2 ≤ length c.given.stored.orders → TellsWorkload c W → HasNoRevive W → ops_in W ≤ default_steps → number_of number_of_outcome s ≢ 4
-spends (Concluded outcome.Finished) c W h two tells none few = λ e. absurd (omega arith)
-spends (Concluded outcome.Stuck) c W h two tells none few = λ e. absurd (omega arith)
-spends (Concluded (outcome.Budget s)) c W h two tells none few = λ e. no-budget c W s h.text two tells none few h.prints
-spends (Stopped BadWords) c W h two tells none few = λ e. absurd (omega arith)
-spends (Stopped (BadLine line w)) c W h two tells none few = λ e. absurd (omega arith)
-spends (Stopped CannotRead) c W h two tells none few = λ e. absurd (omega arith)
-spends (Stopped OutOfMemory) c W h two tells none few = λ e. absurd (omega arith)
-spends CannotWrite c W h two tells none few = λ e. absurd (omega arith)
+  spends : (s : Status Conclusion) → Holds (program c) c.left s → number s ≢ 4
+  spends (Concluded (Ended outcome.Finished)) h = λ e. absurd (omega arith)
+  spends (Concluded (Ended outcome.Stuck)) h = λ e. absurd (omega arith)
+  spends (Concluded (Ended (outcome.Budget s))) h = λ e. no-budget s h.text h.prints
+  spends (Concluded (Explained a)) h = λ e. absurd (omega arith)
+  spends (Stopped BadWords) h = λ e. absurd (omega arith)
+  spends (Stopped (BadLine line w)) h = λ e. absurd (omega arith)
+  spends (Stopped CannotRead) h = λ e. absurd (omega arith)
+  spends (Stopped OutOfMemory) h = λ e. absurd (omega arith)
+  spends CannotWrite h = λ e. absurd (omega arith)
+
+-- Faults.
+
+none-concludes : (n : ℕ) → 5 ≤ n → (k : Conclusion) → number_of_conclusion k ≢ n
+none-concludes n high (Ended o) = no-fault o n high
+none-concludes n high (Explained a) = λ e. absurd (omega arith)
+
+-- a workload that is known and may make the steps is no reason to stop
+pub lacks-lives : (c : Call) (W : Parts) (tells : TellsWorkload c W) (faults : ℕ × ℕ) (s : Stop) → (AsksBeyond c.given → ⊥)
+    → LacksLives (c.given.file tells.run.asked.workload) tells.run.asked.steps faults s → (s ≡ CannotRead) ⊎ (s ≡ OutOfMemory)
+lacks-lives c W tells faults s within lacks = elim lacks [ inl read ↦ inl read | inr none ↦ by s none ] where
+  by : (s : Stop) → HasNoRun (c.given.file tells.run.asked.workload) tells.run.asked.steps faults s → (s ≡ CannotRead) ⊎ (s ≡ OutOfMemory)
+  by BadWords none = absurd (within (record { run = tells.run; exceeds = none }))
+  by (BadLine line (Workload f)) none =
+      absurd (reads-whole tells.bytes W line f tells.reads (of-observed (λ text. Refuses text line f) (c.given.file tells.run.asked.workload) tells.bytes tells.seen none))
+  by (BadLine line Journal) none = absurd none
+  by (BadLine line Lives) none = absurd none
+  by CannotRead none = inl refl
+  by OutOfMemory none = inr refl
 
 -- a call that ended with this exit status is answered
-pub answered : (n : ℕ) (c : Call) → 2 ≤ length c.given.stored.orders → EndsBy (program c) c.left n → MissesFiles n c → MissesLives n c → (HasReadFault c.left → (n ≡ 5) ⊎ (n ≡ 7)) → IsAnswered n c
-answered n c two ends absent missing faulty = by ends.0 ends.1 ends.2 where
-  by : (s : Status Outcome) → n ≡ number_of number_of_outcome s → Holds (program c) c.left s → IsAnswered n c
+pub answered : (n : ℕ) (c : Call) → 2 ≤ length c.given.stored.orders → EndsBy (program c) c.left n → MissesFiles n c → MissesLives n c → RefusesSteps n c → (HasReadFault c.left → (n ≡ 5) ⊎ (n ≡ 7)) → IsAnswered n c
+answered n c two ends absent missing exceeds faulty = by ends.0 ends.1 ends.2 where
+  by : (s : Status Conclusion) → n ≡ number s → Holds (program c) c.left s → IsAnswered n c
   by s is h = subst (λ m. IsAnswered m c) (sym is) (record {
     cause = (s, refl, h);
-    complete = λ W text lives tells reads still quiet. runs s c W text lives h tells reads still quiet;
-    lives = λ W text tells none still. refuses-lives s c W text h tells none still;
-    texts = λ named bytes seen none still. refuses s c named bytes h seen none still;
+    complete = λ W text lives tells reads within still quiet. runs s c W text lives h tells reads within still quiet;
+    lives = λ W text tells none within still. refuses-lives s c W text h tells none within still;
+    texts = λ run bytes seen none within still. refuses s c run bytes h seen none within still;
     words = refuses-words s c h;
-    spends = λ W tells none few. spends s c W h two tells none few;
+    steps = subst (λ m. RefusesSteps m c) is exceeds;
+    explains = λ a asks quiet. explains s c a h asks quiet;
+    spends = λ W tells steps may none few. spends c W two tells steps may none few s h;
     absent = subst (λ m. MissesFiles m c) is absent;
     missing = subst (λ m. MissesLives m c) is missing;
-    reads = reads-well (program c) c.left (λ o. no-fault o 5 (omega arith)) (λ cause. cause.why.1) s h;
+    reads = reads-well (program c) c.left (none-concludes 5 (omega arith)) (λ cause. cause.why.1) s h;
     faulty = subst (λ m. HasReadFault c.left → (m ≡ 5) ⊎ (m ≡ 7)) is faulty;
-    writes = writes-well (program c) c.left (λ o. no-fault o 6 (omega arith)) s h;
+    writes = writes-well (program c) c.left (none-concludes 6 (omega arith)) s h;
   })

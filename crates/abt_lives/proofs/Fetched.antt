@@ -8,11 +8,11 @@ use Rattle.abt_streams.specs.declared.life.Life.{Life}
 use Rattle.abt_report.specs.declared.text_fault.TextFault.{TextFault}
 use Rattle.abt_report.specs.declared.text_fault.TextFault.TheVariants as cause
 use Rattle.abt_streams.specs.Lives.{AreLives}
-use Rattle.abt_streams.specs.Texts.{IsLivesCause, lives_text}
+use Rattle.abt_streams.specs.Texts.{IsLivesCause, IsTextOfLives}
 use Rattle.abt_lives.specs.Lives.{lives_limit, ReadsLives, RefusesLives}
 
 -- what is seen of the file reads as the prefix does
-pub seen-reads : (W : Parts) (seen : Option Text) (front : Text) (lives : List Life) → IfSome seen (λ xs. front ≡ take (lives_limit + 1) xs) → length front ≤ lives_limit → AreLives W lives → lives_text lives ≡ front → IfSome seen (λ xs. ReadsLives W xs lives)
+pub seen-reads : (W : Parts) (seen : Option Text) (front : Text) (lives : List Life) → IfSome seen (λ xs. front ≡ take (lives_limit + 1) xs) → length front ≤ lives_limit → AreLives W lives → IsTextOfLives lives front → IfSome seen (λ xs. ReadsLives W xs lives)
 seen-reads W seen front lives e short are text = of-whole lives_limit (λ bytes. ReadsLives W bytes lives) seen front e short (record { few = short; are = are; text = text })
 
 -- and is refused as the prefix is

@@ -1,3 +1,4 @@
+pub mod Asked
 pub mod Call
 pub mod Lives
-pub mod Words
+pub mod Status

@@ -9,7 +9,7 @@ use Rattle.abt_shell.specs.Fetched.{HasNot}
 use Rattle.abt_streams.specs.declared.life.Life.{Life}
 use Rattle.abt_streams.specs.declared.wave.Wave.{Wave}
 use Rattle.abt_streams.specs.Lives.{AreLives}
-use Rattle.abt_streams.specs.Texts.{IsBadLifeAt, IsNoLivesText, lives_text}
+use Rattle.abt_streams.specs.Texts.{IsBadLifeAt, IsNoLivesText, IsTextOfLives}
 
 -- how many bytes the text of lives has at most
 abbrev pub lives_limit : ℕ
@@ -19,7 +19,7 @@ lives_limit = 65536
 pub record ReadsLives (W : Parts) (bytes : Text) (lives : List Life) : Type 0 where
   pub few : length bytes ≤ lives_limit
   pub are : AreLives W lives
-  pub text : lives_text lives ≡ bytes
+  pub text : IsTextOfLives lives bytes
 
 -- why the bytes are not: they are too many, which line 0 means, or line l is the first that breaks a rule
 abbrev pub RefusesLives : Parts → Text → ℕ → Type 0

@@ -2,7 +2,8 @@
 #![tactic(auto)]
 
 mod program;
+mod status;
 mod waves;
-mod words;
 
-pub use program::{NAME, abtwaves};
+pub use program::abtwaves;
+pub use status::{Conclusion, NAME};

@@ -15,7 +15,7 @@ other : (mark b : ℕ) → b ≢ mark → (b == mark) ≡ false
 other mark b apart = grind (arith, nat_tests)
 
 -- the first part of a text that is split at each mark
-first-part : (mark : ℕ) (xs us : Text) → Lacks mark xs → slice_split (λ b. b == mark) (xs ++ mark ∷ us) ≡ xs ∷ slice_split (λ b. b == mark) us
+pub first-part : (mark : ℕ) (xs us : Text) → Lacks mark xs → slice_split (λ b. b == mark) (xs ++ mark ∷ us) ≡ xs ∷ slice_split (λ b. b == mark) us
 first-part mark xs us lacks =
     slice_split_at (λ b. b == mark) xs mark us (λ k d lt. other mark (get_or xs k d) (lacks k d lt)) (eq-eqb mark mark refl)
 

@@ -33,6 +33,7 @@ use Rattle.abt_drain.proofs.Started.{crew-started, is-start}
 use Rattle.abt_drain.proofs.Stopping.{made-same}
 use Rattle.abt_waves.specs.Fleets.{IsFleet, MakesWave}
 use Rattle.abt_waves.proofs.Fleets.{crew-is-fleet}
+use Rattle.abt_waves.proofs.OneWave.{wave-journal, wave-leads}
 use Rattle.abt_streams.specs.declared.life.Life.{Life}
 use Rattle.abt_streams.specs.declared.wave.Wave.{Wave}
 use Rattle.abt_streams.specs.Cutting.{behind, log_lengths}
@@ -45,7 +46,6 @@ use Rattle.abt_streams.proofs.Alive.{live-own, numbers-same}
 use Rattle.abt_streams.proofs.Behind.{behind-cut}
 use Rattle.abt_streams.proofs.Joined.{waves-push}
 use Rattle.abt_streams.proofs.Lamports.{lives-lamport, logs-with-wave}
-use Rattle.abt_streams.proofs.OneWave.{wave-journal, wave-leads}
 use Rattle.abt_streams.proofs.Rising.{all-below, all-rise}
 
 -- what is known if it went well
@@ -97,7 +97,7 @@ module _ (W : Parts) (Z : Stored) (n : ℕ) (lives : List Life) (are : AreLives 
       let journal = wave-journal W Z fleet.valid fleet.stored J (moment_of W streams objects) (moment_of W after left) under.lead flags makes.wave (log_of (behind after (log_lengths streams))) cut es merged in
       record {
         fleet = fleet;
-        lead = wave-leads W Z fleet.valid fleet.stored J (moment_of W streams objects) (moment_of W after left) under.lead flags makes.wave (log_of (behind after (log_lengths streams))) cut es merged;
+        lead = wave-leads W Z fleet.valid fleet.stored J (moment_of W streams objects) (moment_of W after left) under.lead flags makes.wave es journal;
         below = all-below W Z (moment_of W streams objects) (moment_of W after left) flags makes es journal J under.below;
         rise = all-rise W Z (moment_of W streams objects) (moment_of W after left) flags makes es journal J under.below under.rise;
         has_logs = logs-with-wave W Z flags (moment_of W streams objects) (moment_of W after left) makes.wave es journal J under.has_logs;

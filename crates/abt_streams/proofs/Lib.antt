@@ -6,9 +6,10 @@ mod FirstLines
 mod Joined
 mod Journeys
 mod Lamports
-mod Many
 mod NoLives
-mod OneWave
 mod Quieted
 mod Rising
+mod Skipped
+mod Standing
+mod Telling
 mod Words

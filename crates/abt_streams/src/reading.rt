@@ -1,12 +1,14 @@
 //! The lives of streams, read from a text.
 
-ghost use Rattle.std.specs.Prelude.{ℕ, ◌≡◌, ◌≢◌, ◌<◌, ◌++◌, ◌↔◌, All, IfErr, IfOk, IsTrue, MatchBool, MatchOption, OnOk, Some, decimal, length, slice_index, take};
+ghost use Rattle.std.specs.Prelude.{ℕ, ◌≡◌, ◌≢◌, ◌<◌, ◌^◌, ◌↔◌, All, IfErr, IfOk, IsTrue, MatchBool, MatchOption, OnOk, Some, decimal, length, slice_index, take};
+ghost use Rattle.std.specs.Str.{is_utf8};
+ghost use Rattle.abt_machine.specs.Faults.{is_skipped};
 ghost use Rattle.abt_machine.specs.Operations.{IsEventual};
-ghost use Rattle.abt_machine.specs.Words.{Text, ended};
+ghost use Rattle.abt_machine.specs.Spelling.{is_separator, words_of};
 ghost use Rattle.abt_report.specs.Journals.{IsShort, ReadsAs};
 ghost use Rattle.abt_streams.specs.declared.life.Life.{Life};
 ghost use Rattle.abt_streams.specs.Lives.{AreLives, MayFollow};
-ghost use Rattle.abt_streams.specs.Texts.{IsShortLife, IsLivesCause, IsNoFeed, SpellNumbers, life_line, lives_text};
+ghost use Rattle.abt_streams.specs.Texts.{IsCut, IsLivesCause, IsNoFeed, IsShortLife, IsTextOfLives, SpellNumbers, Takes, is_skipped_line, life_line};
 
 use crate::life::{Life, Lives};
 use abt_lines::{end_line, push_decimal};
@@ -22,16 +24,66 @@ fn feed_at(text: &[u8]) -> Option<usize>
     text.iter().position(|b| *b == b'\n')
 }
 
-// The first line with its line feed, or the whole text if it has none; and what follows.
-fn first_line(text: &[u8]) -> (&[u8], &[u8])
-    ensures joined { result.0.now ++ result.1.now ≡ text.now }
-    ensures some { 0 < length text.now → 0 < length result.0.now }
-    ensures first { (line more : Text) → All IsNoFeed line → ended line ++ more ≡ text.now → ended line ≡ result.0.now }
+// The first line of a text without its line feed, and with it, if it has one; and what follows.
+#[derive(Clone, Copy)]
+struct Cut<'a> {
+    line: &'a [u8],
+    whole: &'a [u8],
+    rest: &'a [u8],
+}
+
+fn first_line(text: &[u8]) -> Cut<'_>
+    ensures { IsCut text.now result.line.now result.whole.now result.rest.now }
 {
     match feed_at(text) {
-        Some(end) => text.split_at(end + 1),
-        None => (text, &[]),
+        Some(end) => {
+            let (whole, rest) = text.split_at(end + 1);
+            Cut {
+                line: &text[..end],
+                whole,
+                rest,
+            }
+        }
+        None => Cut {
+            line: text,
+            whole: text,
+            rest: &[],
+        },
     }
+}
+
+fn is_separator(b: u8) -> bool
+    ensures { result ≡ is_separator b }
+{
+    b == b' ' || b == b'\t'
+}
+
+// Whether a line has no words, or its first begins with `#`.
+fn has_no_first_word(line: &[u8]) -> bool
+    ensures { result ≡ is_skipped (words_of line.now) }
+{
+    for b in line {
+        if !is_separator(*b) {
+            return *b == b'#';
+        }
+    }
+    true
+}
+
+fn is_utf8(line: &[u8]) -> bool
+    ensures { result ≡ is_utf8 line.now }
+{
+    match str::from_utf8(line) {
+        Ok(_) => true,
+        Err(_) => false,
+    }
+}
+
+// Whether a line is skipped.
+fn is_skipped(line: &[u8]) -> bool
+    ensures { result ≡ is_skipped_line line.now }
+{
+    has_no_first_word(line) && is_utf8(line)
 }
 
 // The number that a word is.
@@ -133,30 +185,52 @@ fn read_life(
     Ok(None)
 }
 
+// Adds the life of a line to these, unless the line is skipped; whether the line breaks no rule. The text is room that is used again.
+fn take_line(
+    w: &Workload,
+    lives: &mut Vec<Life>,
+    cut: &Cut,
+    text: &mut Vec<u8>,
+) -> Result<bool, Want>
+    ensures { IfOk result (λ right. Takes w.now lives.old.items cut.now.line.now cut.now.whole.now right lives.new.items) }
+{
+    if is_skipped(cut.line) {
+        return Ok(true);
+    }
+    match read_life(w, lives, cut.whole, text)? {
+        Some(life) => {
+            lives.push(life)?;
+            Ok(true)
+        }
+        None => Ok(false),
+    }
+}
+
 /// The lives of streams of the workload whose text this is. Each line is `life S X Y`, with single spaces, numbers without
-/// leading zeros, and a line feed: S is a stream that no earlier line names, and X and Y are two different eventuals.
+/// leading zeros, and a line feed: S is a stream that no earlier line names, and X and Y are two different eventuals. A line that a
+/// workload's text skips is skipped and counted.
 ///
 /// # Errors
 ///
 /// `Bad` with the first line, counted from 1, that breaks a rule; `Memory` if it is out of memory.
 pub fn read_lives(alloc: Global, w: &Workload, bytes: &[u8]) -> Result<Lives, TextFault>
+    requires { length bytes.now < 2 ^ 32 }
     ensures lives { IfOk result (λ lives. AreLives w.now lives) }
-    ensures text { IfOk result (λ lives. lives_text lives ≡ bytes.now) }
+    ensures text { IfOk result (λ lives. IsTextOfLives lives bytes.now) }
     ensures cause { IfErr result (IsLivesCause w.now bytes.now) }
 {
     w.known();
     let mut lives = Vec::new(alloc);
     let mut text = Vec::new(alloc);
     let mut rest = bytes;
+    let mut line = 0u32;
     while !rest.is_empty() {
-        let (line, more) = first_line(rest);
-        let Some(life) = read_life(w, &lives, line, &mut text)? else {
-            return Err(TextFault::Bad {
-                line: lives.len() as u32 + 1,
-            });
-        };
-        lives.push(life)?;
-        rest = more;
+        let cut = first_line(rest);
+        line += 1;
+        if !take_line(w, &mut lives, &cut, &mut text)? {
+            return Err(TextFault::Bad { line });
+        }
+        rest = cut.rest;
     }
     Ok(Lives::new(lives))
 }

@@ -8,6 +8,7 @@ use abt_streams::{Wave, read_lives, run_lives};
 use abt_work::AnyWork;
 use abt_workload::read;
 use std::alloc::Global;
+use std::process::Abort;
 use std::sync::Wait;
 use std::test::Fail;
 use std::thread::Threads;
@@ -107,7 +108,7 @@ static ROWS: [Row; 7] = [
 static NO_UNITS: (&str, &str) = (PAIR, "units 0\nend\n");
 
 // Texts that are refused, each at this line.
-static FAULTS: [(&str, u32); 20] = [
+static FAULTS: [(&str, u32); 24] = [
     ("life 1 0 0\n", 1),
     ("life 1 0 1\nlife 1 1 0\n", 2),
     ("life 2 0 1\n", 1),
@@ -126,9 +127,16 @@ static FAULTS: [(&str, u32); 20] = [
     ("life 1 0\n", 1),
     ("life 1 0 1 1\n", 1),
     ("lives 1 0 1\n", 1),
-    ("\n", 1),
-    ("life 0 0 1\n\nlife 1 0 1\n", 2),
+    (";\n", 1),
+    ("\r\n", 1),
+    ("\n\nlife 1 0 0\n", 3),
+    ("life 0 0 1\n \t\n\t# life 1 0 1\nlife 0 0 1\n", 4),
+    ("#\nlife 1 0 1", 2),
+    ("life 0 0 1\n\nlife 1 0 1\n# life\nlives\n", 5),
 ];
+
+// Two lives among lines that are skipped.
+const SKIPPED: &str = "\n# two streams\nlife 1 0 1\n \t#\n\t \nlife 0 1 0\n#";
 
 fn is_wave(wave: &Wave, (from, streams): Waved) -> bool {
     let starts = match from {
@@ -148,7 +156,7 @@ fn are_waves(waves: &[Wave], wanted: &[Waved]) -> bool {
 
 // Whether a run on lives has this report and these waves.
 #[tactic(auto, using(crate::proofs::Storing::stores_calls))]
-fn is_run<R: Threads + Wait + Sync>(
+fn is_run<R: Abort + Threads + Wait + Sync>(
     rt: &R,
     alloc: Global,
     w: &Workload,
@@ -156,6 +164,7 @@ fn is_run<R: Threads + Wait + Sync>(
     report: &str,
     waves: &[Waved],
 ) -> Result<bool, Fail> {
+    assert!(rt; lives.len() < 10_000);
     let lives = read_lives(alloc, w, lives.as_bytes())?;
     let orders = [StoredOrder::rotating(), StoredOrder::mirroring()];
     w.known();
@@ -168,7 +177,7 @@ fn is_run<R: Threads + Wait + Sync>(
 }
 
 // As `is_run`, of the workload of this text.
-fn is_run_of<R: Threads + Wait + Sync>(
+fn is_run_of<R: Abort + Threads + Wait + Sync>(
     rt: &R,
     alloc: Global,
     text: &str,
@@ -191,7 +200,8 @@ fn runs_on_lives_end_as_reported(rt: HostRuntime) -> Result<(), Fail> {
 }
 
 // How many lives a text has, if it is a text of lives.
-fn count_lives(alloc: Global, w: &Workload, text: &str) -> Option<usize> {
+fn count_lives(rt: &impl Abort, alloc: Global, w: &Workload, text: &str) -> Option<usize> {
+    assert!(rt; text.len() < 10_000);
     match read_lives(alloc, w, text.as_bytes()) {
         Ok(lives) => Some(lives.items().len()),
         Err(_) => None,
@@ -199,7 +209,8 @@ fn count_lives(alloc: Global, w: &Workload, text: &str) -> Option<usize> {
 }
 
 // The line at which a text is refused, if it is.
-fn refused(alloc: Global, w: &Workload, text: &str) -> Option<u32> {
+fn refused(rt: &impl Abort, alloc: Global, w: &Workload, text: &str) -> Option<u32> {
+    assert!(rt; text.len() < 10_000);
     match read_lives(alloc, w, text.as_bytes()) {
         Err(TextFault::Bad { line }) => Some(line),
         _ => None,
@@ -207,9 +218,9 @@ fn refused(alloc: Global, w: &Workload, text: &str) -> Option<u32> {
 }
 
 // The first text that is not refused at its line, if there is one.
-fn other_than_refused(alloc: Global, w: &Workload) -> Option<&'static str> {
+fn other_than_refused(rt: &impl Abort, alloc: Global, w: &Workload) -> Option<&'static str> {
     for (text, line) in &FAULTS {
-        if refused(alloc, w, text) != Some(*line) {
+        if refused(rt, alloc, w, text) != Some(*line) {
             return Some(text);
         }
     }
@@ -227,9 +238,13 @@ fn no_units(alloc: Global) -> Result<Workload, Fail> {
 #[test]
 fn lives_are_read_or_refused(rt: HostRuntime) -> Result<(), Fail> {
     let w = no_units(rt.alloc())?;
-    let none = count_lives(rt.alloc(), &w, "");
-    let two = count_lives(rt.alloc(), &w, "life 1 0 1\nlife 0 1 0\n");
-    let other = other_than_refused(rt.alloc(), &w);
-    assert!(rt; (none, two, other) == (Some(0), Some(2), None), "{other:?}");
+    let none = count_lives(&rt, rt.alloc(), &w, "");
+    let two = count_lives(&rt, rt.alloc(), &w, "life 1 0 1\nlife 0 1 0\n");
+    let skipped = count_lives(&rt, rt.alloc(), &w, SKIPPED);
+    let other = other_than_refused(&rt, rt.alloc(), &w);
+    assert!(rt;
+        (none, two, skipped, other) == (Some(0), Some(2), Some(2), None),
+        "{other:?}"
+    );
     Ok(())
 }

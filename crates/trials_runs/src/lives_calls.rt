@@ -36,12 +36,22 @@ const REVIVING: &str =
 const REVIVING_OUTPUT: &str =
     "unit 0 stream 0: !unit-state\nunit 1 done:\ntally units 2 unborn 0 pool 0 stream 1 blocked 0 done 1 asked 0 access 0 steps 10000\nbudget 0\nwave 0 from 0 streams 0\n";
 
+// A unit on the only stream.
+const SAYING: &str =
+    "abt 1\nstreams 1\npool 0 fifo mpmc\nsched 0 prio 0\nstream 0 main 0\nunits 1\nunit 0 ult at 0\nsay hi\nend\n";
+
+const SAYING_OUTPUT: &str =
+    "1 0 take 0 0\n2 0 look 0\n3 0 step 0 0 ok\n4 0 end 0 done\n5 0 miss 0\nunit 0 done: hi\ntally units 1 unborn 0 pool 0 stream 0 blocked 0 done 1 asked 0 access 0 steps 1\nfinished\nwave 0 from 0 streams 0\n";
+
+const HELP: &str =
+    "abtwaves WORKLOAD LIVES [--steps V] [--journal]\nabtwaves --help\nabtwaves --version\n";
+
 const BAD_WORDS: &str = "abtwaves: bad command line\n";
 
 // The words, the bytes of the files `w` and `l`, the write that fails, the status, the output and the message.
 type Row<'a> = (&'a [&'a str], &'a str, &'a [u8], u64, u8, &'a str, &'a str);
 
-static ROWS: [Row<'static>; 14] = [
+static ROWS: [Row<'static>; 22] = [
     (&["w", "l"], MADE, b"life 1 0 1\n", NONE, 0, MADE_OUTPUT, ""),
     (
         &["w", "l"],
@@ -106,6 +116,62 @@ static ROWS: [Row<'static>; 14] = [
         5,
         "",
         "abtwaves: cannot read\n",
+    ),
+    (
+        &["w", "l"],
+        MADE,
+        b"\n# one stream\nlife 1 0 1\n\t",
+        NONE,
+        0,
+        MADE_OUTPUT,
+        "",
+    ),
+    (
+        &["--steps=2", "w", "l"],
+        MADE,
+        b"life 1 0 1\n",
+        NONE,
+        0,
+        MADE_OUTPUT,
+        "",
+    ),
+    (
+        &["w", "--journal", "l"],
+        SAYING,
+        b"",
+        NONE,
+        0,
+        SAYING_OUTPUT,
+        "",
+    ),
+    (&["--help"], MADE, b"", NONE, 0, HELP, ""),
+    (&["--version"], MADE, b"", NONE, 0, "abtwaves 1\n", ""),
+    (
+        &["--version"],
+        MADE,
+        b"",
+        0,
+        6,
+        "",
+        "abtwaves: cannot write\n",
+    ),
+    (
+        &["w", "l", "--steps", "100001"],
+        MADE,
+        b"life",
+        NONE,
+        2,
+        "",
+        BAD_WORDS,
+    ),
+    (
+        &["w", "l", "--steps", "2", "--steps", "2"],
+        MADE,
+        b"",
+        NONE,
+        2,
+        "",
+        BAD_WORDS,
     ),
     (&["w"], MADE, b"", NONE, 2, "", BAD_WORDS),
     (&["w", "l", "l"], MADE, b"", NONE, 2, "", BAD_WORDS),
@@ -176,14 +242,14 @@ fn calls_on_lives_leave_what_their_rows_say(rt: HostRuntime) -> Result<(), Fail>
     Ok(())
 }
 
-// Whether a text of this many blanks is refused with this message.
+// Whether a text of this many bytes, none of which is skipped, is refused with this message.
 fn is_refused<R: Threads + Wait + Sync>(
     rt: &R,
     alloc: Global,
-    blanks: usize,
+    length: usize,
     message: &str,
 ) -> Result<bool, Fail> {
-    let lives = vec![in alloc; b' '; blanks]?;
+    let lives = vec![in alloc; b'l'; length]?;
     let row = (
         ["w", "l"].as_slice(),
         MADE,

@@ -1,7 +1,7 @@
 -- The bytes that were read, few or too many.
-use Rattle.std.proofs.Common.{◌∙◌, arith, subst}
+use Rattle.std.proofs.Common.{◌∙◌, ap, arith, subst}
 use Rattle.abt_machine.specs.Words.{Text}
-use Rattle.abt_streams.specs.Texts.{IsLivesCause}
+use Rattle.abt_streams.specs.Texts.{IsLivesCause, told}
 use Rattle.abt_lives.proofs.Fetched.{seen-long, seen-reads, seen-refuses}
 use Rattle.abt_lives.proofs.program.fetch_lives.Goals as goal
 
@@ -12,7 +12,7 @@ returns-then-len-gt-LIVES_LIMIT-clause-stop g c =
 pub returns-in-Ok-clause-reads : goal.returns-in-Ok-clause-reads
 returns-in-Ok-clause-reads g c =
     seen-reads c.args.w.now (g.F.Files.file c.args.files.now c.args.file.now) c.in_ok-bytes.bytes.items c.in-Ok.lives c.in_ok-bytes.ensures.bytes (omega (arith, c.len.ensures, c.if-len-gt-LIVES_LIMIT.false))
-    c.in-Ok.ensures.lives (c.in-Ok.ensures.text ∙ c.deref.ensures.value)
+    c.in-Ok.ensures.lives (c.in-Ok.ensures.text ∙ ap told c.deref.ensures.value)
 
 pub returns-in-Err-Bad-clause-stop : goal.returns-in-Err-Bad-clause-stop
 returns-in-Err-Bad-clause-stop g c =

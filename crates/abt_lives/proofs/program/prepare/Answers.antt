@@ -1,21 +1,43 @@
-use Rattle.std.proofs.Common.{subst, sym}
+use Rattle.std.proofs.Common.{◌∙◌, ap, inl, map, string_bytes, subst, sym}
 use Rattle.std.specs.Prelude.{IsErrAnd}
-use Rattle.abt_run.specs.Prepared.{LacksSecond}
-use Rattle.abt_lives.proofs.Naming.{same-names}
+use Rattle.abt_words.specs.declared.lives.LivesWords.{LivesWords}
+use Rattle.abt_run.specs.Steps.{ExceedsKnown}
+use Rattle.abt_lives.specs.Asked.{LacksLives}
+use Rattle.abt_lives.proofs.Naming.{run-or-about, said-as, same-asked}
 use Rattle.abt_lives.proofs.program.prepare.Goals as goal
 
 pub returns-in-Some-clause-done : goal.returns-in-Some-clause-done
-returns-in-Some-clause-done g c = c.prepare_files.ensures.done _ c.in-Some.ensures
-
-pub returns-in-Some-clause-stop : goal.returns-in-Some-clause-stop
-returns-in-Some-clause-stop g c = c.prepare_files.ensures.stop _ c.in-Some.ensures
+returns-in-Some-clause-done g c = c.prepare_about.ensures.done _ c.in-Some.ensures
 
 pub returns-in-Some-clause-absent : goal.returns-in-Some-clause-absent
-returns-in-Some-clause-absent g c = λ workload lives asks gone.
-    c.prepare_files.ensures.absent (subst (g.F.Files.absent c.args.files.now) (same-names _ (record { workload = workload; lives = lives; asks = asks }) (record { workload = _; lives = _; asks = c.in-Some.ensures })).0 gone)
+returns-in-Some-clause-absent g c = λ run gone. absurd (run-or-about _ run c.in-Some.asked c.in-Some.ensures)
 
 pub returns-in-Some-clause-missing : goal.returns-in-Some-clause-missing
-returns-in-Some-clause-missing g c = λ workload lives asks gone.
-    let same = same-names _ (record { workload = workload; lives = lives; asks = asks }) (record { workload = _; lives = _; asks = c.in-Some.ensures }) in
-    subst (λ file. IsErrAnd c.prepare_files.result (LacksSecond (g.F.Files.file c.args.files.now file) (g.F.Files.faults c.args.files.now, g.F.Files.faults c.prepare_files.new.files))) (sym same.0)
-    (c.prepare_files.ensures.missing (subst (g.F.Files.absent c.args.files.now) same.1 gone))
+returns-in-Some-clause-missing g c = λ run gone. absurd (run-or-about _ run c.in-Some.asked c.in-Some.ensures)
+
+pub returns-in-Some-clause-exceeds : goal.returns-in-Some-clause-exceeds
+returns-in-Some-clause-exceeds g c = λ run known. absurd (run-or-about _ run c.in-Some.asked c.in-Some.ensures)
+
+pub returns-in-Ok-clause-done : goal.returns-in-Ok-clause-done
+returns-in-Ok-clause-done g c = c.prepare_files.ensures.done (map string_bytes c.args.words.now) (said-as (map string_bytes c.args.words.now) c.in-Ok.asked _ _ c.as_str.ensures c.as_str-in-Ok.ensures c.in-Ok.ensures.said)
+
+pub returns-in-Ok-clause-stop : goal.returns-in-Ok-clause-stop
+returns-in-Ok-clause-stop g c = c.prepare_files.ensures.stop (map string_bytes c.args.words.now) (said-as (map string_bytes c.args.words.now) c.in-Ok.asked _ _ c.as_str.ensures c.as_str-in-Ok.ensures c.in-Ok.ensures.said)
+
+pub returns-in-Ok-clause-absent : goal.returns-in-Ok-clause-absent
+returns-in-Ok-clause-absent g c = λ run gone.
+    let same = same-asked (map string_bytes c.args.words.now) run (record { asked = c.in-Ok.asked; says = c.in-Ok.ensures.said }) in
+    inl (c.prepare_files.ensures.absent (subst (g.F.Files.absent c.args.files.now) (ap (λ (w : LivesWords). w.workload) same ∙ sym c.as_str.ensures) gone))
+
+pub returns-in-Ok-clause-missing : goal.returns-in-Ok-clause-missing
+returns-in-Ok-clause-missing g c = λ run gone.
+    let same = same-asked (map string_bytes c.args.words.now) run (record { asked = c.in-Ok.asked; says = c.in-Ok.ensures.said }) in
+    let known = c.prepare_files.ensures.missing (subst (g.F.Files.absent c.args.files.now) (ap (λ (w : LivesWords). w.lives) same ∙ sym c.as_str-in-Ok.ensures) gone) in
+    subst (λ (w : LivesWords). IsErrAnd c.prepare_files.result (LacksLives (g.F.Files.file c.args.files.now w.workload) w.steps (g.F.Files.faults c.args.files.now, g.F.Files.faults c.prepare_files.new.files))) (sym same)
+    (subst (λ file. IsErrAnd c.prepare_files.result (LacksLives (g.F.Files.file c.args.files.now file) c.in-Ok.asked.steps (g.F.Files.faults c.args.files.now, g.F.Files.faults c.prepare_files.new.files))) c.as_str.ensures known)
+
+pub returns-in-Ok-clause-exceeds : goal.returns-in-Ok-clause-exceeds
+returns-in-Ok-clause-exceeds g c = λ run known.
+    let same = same-asked (map string_bytes c.args.words.now) run (record { asked = c.in-Ok.asked; says = c.in-Ok.ensures.said }) in
+    c.prepare_files.ensures.exceeds (subst (λ file. ExceedsKnown (g.F.Files.file c.args.files.now file) c.in-Ok.asked.steps) (sym c.as_str.ensures)
+    (subst (λ (w : LivesWords). ExceedsKnown (g.F.Files.file c.args.files.now w.workload) w.steps) same known))
