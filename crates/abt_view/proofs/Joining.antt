@@ -17,3 +17,7 @@ four o a b c d r s t u first second third fourth = two o a (b ++ (c ++ d)) r u f
 -- by five
 pub five : (o a b c d e r s t u v : Text) → r ≡ o ++ a → s ≡ r ++ b → t ≡ s ++ c → u ≡ t ++ d → v ≡ u ++ e → v ≡ o ++ (a ++ (b ++ (c ++ (d ++ e))))
 five o a b c d e r s t u v first second third fourth fifth = two o a (b ++ (c ++ (d ++ e))) r v first (four r b c d e s t u v second third fourth fifth)
+
+-- by six
+pub six : (o a b c d e f r s t u v w : Text) → r ≡ o ++ a → s ≡ r ++ b → t ≡ s ++ c → u ≡ t ++ d → v ≡ u ++ e → w ≡ v ++ f → w ≡ o ++ (a ++ (b ++ (c ++ (d ++ (e ++ f)))))
+six o a b c d e f r s t u v w first second third fourth fifth sixth = two o a (b ++ (c ++ (d ++ (e ++ f)))) r w first (five r b c d e f s t u v w second third fourth fifth sixth)

@@ -1,5 +1,6 @@
 pub mod Beginning
 pub mod Complete
+pub mod Concluding
 pub mod Preparing
 pub mod Ranges
 pub mod Joining

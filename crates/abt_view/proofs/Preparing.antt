@@ -8,8 +8,8 @@ use Rattle.abt_shell.specs.declared.status.Stop.{Stop}
 use Rattle.abt_shell.specs.declared.status.Wrong.{Wrong}
 use Rattle.abt_shell.specs.declared.status.Wrong.TheVariants.{Workload, Journal, Lives}
 use Rattle.abt_shell.proofs.Fetched.{grew-later, stops-file}
-use Rattle.abt_view.specs.Call.{AsksNothing, IsBadLine, NamesFile, ReadsNames, StopsView}
-use Rattle.abt_view.specs.Views.{Asks, Request}
+use Rattle.abt_view.specs.Call.{IsBadLine, NamesFile, ReadsNames, StopsView}
+use Rattle.abt_view.specs.Views.{Asks, AsksNothing, Request}
 
 -- why the workload's file has no workload is why the call stops
 pub no-workload-stops : (words : List Text) (file_of : Text → Option Text) (q : Request) (file : Text) → Asks words q → q.workload ≡ Some file → (s : Stop) (faults : ℕ × ℕ)

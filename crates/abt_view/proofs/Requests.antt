@@ -1,5 +1,5 @@
 -- What words ask for, and what is known of the files that they name.
-use Rattle.std.proofs.Common.{◌≡◌, ◌∙◌, ◌⊎◌, ℕ, List, Option, Some, None, inl, inr, refl, subst, sym}
+use Rattle.std.proofs.Common.{◌≡◌, ◌∙◌, ◌⊎◌, ℕ, List, [], ◌∷◌, Option, Some, None, inl, inr, refl, subst, sym}
 use Rattle.std.specs.Prelude.{IfSome}
 use Rattle.abt_machine.specs.declared.program.Fault.{Fault}
 use Rattle.abt_machine.specs.declared.workload.Parts.{Parts}
@@ -11,8 +11,10 @@ use Rattle.abt_shell.specs.declared.status.Stop.TheVariants.{BadWords, BadLine, 
 use Rattle.abt_shell.specs.declared.status.Wrong.TheVariants.{Workload, Journal, Lives}
 use Rattle.abt_shell.proofs.Fetched.{of-observed}
 use Rattle.abt_view.specs.Call.{LacksJournal, ReadsNames, TellsNames}
-use Rattle.abt_view.specs.Views.{Asks, AsksFor, Request}
+use Rattle.abt_view.specs.Views.{Asks, AsksFor, Request, topic_word, view_word}
+use Rattle.abt_view.specs.declared.about.Topic.{Topic}
 use Rattle.abt_view.specs.declared.views.View.{View}
+use Rattle.abt_view.specs.declared.views.View.TheVariants as view
 
 -- words name one journal's file
 journals-agree : (words : List Text) (v w : View) (f g : Text) (m n : Option Text) → AsksFor words v f m → AsksFor words w g n → f ≡ g
@@ -33,6 +35,30 @@ workloads-agree words v w f g (Some a) (Some b) one two = let first = one.0 in l
 
 pub one-workload : (words : List Text) (p q : Request) → Asks words p → Asks words q → p.workload ≡ q.workload
 one-workload words p q one two = workloads-agree words p.view q.view p.journal q.journal p.workload q.workload one two
+
+-- and one view
+one-word : (v w : View) → view_word v ≡ view_word w → v ≡ w
+one-word view.Svg view.Svg same = refl
+one-word view.Svg view.Trace same = absurd cc
+one-word view.Trace view.Svg same = absurd cc
+one-word view.Trace view.Trace same = refl
+
+views-agree : (words : List Text) (v w : View) (f g : Text) (m n : Option Text) → AsksFor words v f m → AsksFor words w g n → v ≡ w
+views-agree words v w f g None None one two = one-word v w cc
+views-agree words v w f g None (Some b) one two = let other = two.0 in absurd cc
+views-agree words v w f g (Some a) None one two = let other = one.0 in absurd cc
+views-agree words v w f g (Some a) (Some b) one two = let first = one.0 in let second = two.0 in one-word v w cc
+
+pub one-view : (words : List Text) (p q : Request) → Asks words p → Asks words q → p.view ≡ q.view
+one-view words p q one two = views-agree words p.view q.view p.journal q.journal p.workload q.workload one two
+
+-- words that ask for what the program says of itself ask for no view
+asks-for-none : (words : List Text) (t : Topic) (v : View) (f : Text) (m : Option Text) → words ≡ topic_word t ∷ [] → AsksFor words v f m → ⊥
+asks-for-none words t v f None same asks = cc
+asks-for-none words t v f (Some file) same asks = let other = asks.0 in cc
+
+pub asks-none : (words : List Text) (t : Topic) (q : Request) → words ≡ topic_word t ∷ [] → Asks words q → ⊥
+asks-none words t q same asks = asks-for-none words t q.view q.journal q.workload same asks
 
 -- what is known of the journal's file is known of the bytes that are observed
 pub of-journal : (P : Text → Type 0) (words : List Text) (p q : Request) (bytes : Text) (file_of : Text → Option Text) → Asks words p → Asks words q → file_of q.journal ≡ Some bytes

@@ -1,5 +1,5 @@
 -- What a call of the program reads and writes, and what each exit status says about that.
-use Rattle.std.specs.Prelude.{◌≡◌, ◌≢◌, ◌⊎◌, ℕ, List, Option, Some, None, IfSome, codes, ⊤}
+use Rattle.std.specs.Prelude.{◌≡◌, ◌≢◌, ◌⊎◌, ℕ, List, Option, Some, None, IfSome, codes}
 use Rattle.std.specs.List.{All}
 use Rattle.abt_machine.specs.declared.events.Event.{Event}
 use Rattle.abt_machine.specs.declared.workload.Parts.{Parts}
@@ -14,7 +14,9 @@ use Rattle.abt_shell.specs.declared.status.Wrong.TheVariants.{Workload, Journal,
 use Rattle.abt_shell.specs.Calls.{EndsBy, HasReadFault, Left, Program}
 use Rattle.abt_shell.specs.Fetched.{StopsFor}
 use Rattle.abt_shell.specs.Told.{Grew}
-use Rattle.abt_view.specs.Views.{Asks, Request, view_text}
+use Rattle.abt_view.specs.declared.views.Conclusion.{Conclusion}
+use Rattle.abt_view.specs.declared.views.Conclusion.TheVariants.{Shown, TooLarge, Told}
+use Rattle.abt_view.specs.Views.{Asks, AsksNothing, IsAbout, Request, conclusion_of, number_of_conclusion, view_text}
 
 -- the words, the bytes of each file if they are observable, of which names it is observable that no file has them, and what the call left
 pub record Call : Type 1 where
@@ -22,10 +24,6 @@ pub record Call : Type 1 where
   pub file : Text → Option Text
   pub absent : Text → Type 0
   pub left : Left
-
--- the words do not ask for a view
-abbrev pub AsksNothing : List Text → Type 0
-AsksNothing words = (q : Request) → Asks words q → ⊥
 
 -- the words ask for a view of a file
 pub record NamesFile (words : List Text) : Type 0 where
@@ -62,20 +60,28 @@ pub record NamesJournal (words : List Text) (file_of : Text → Option Text) (Is
   pub reads : ReadsNames request.workload file_of names
   pub is : IfSome (file_of request.journal) Is
 
--- the text is that view of the journal in a file, whose numbers are within their types, with the operations of the workload, if one is named
-pub record IsFileView (q : Request) (file_of : Text → Option Text) (text : Text) : Type 0 where
+-- the text is that view of the journal in a file, whose numbers are within their types, with the operations of the workload, if one is
+-- named, and the call comes to this conclusion of it
+pub record IsFileView (q : Request) (file_of : Text → Option Text) (conclusion : Conclusion) (text : Text) : Type 0 where
   pub names : Option Parts
   pub journal : List Event
   pub events : All IsEvent journal
   pub workload : ReadsNames q.workload file_of names
   pub reads : IfSome (file_of q.journal) (IsTextOf journal)
   pub shows : text ≡ view_text q.view names journal
+  pub concludes : conclusion ≡ conclusion_of q.view journal
 
--- the text is the view that the words ask for
-pub record IsViewOf (words : List Text) (file_of : Text → Option Text) (text : Text) : Type 0 where
+-- the text is the view that the words ask for, and the call comes to this conclusion of it
+pub record IsViewOf (words : List Text) (file_of : Text → Option Text) (conclusion : Conclusion) (text : Text) : Type 0 where
   pub request : Request
   pub asks : Asks words request
-  pub shown : IsFileView request file_of text
+  pub shown : IsFileView request file_of conclusion text
+
+-- what a call prints that comes to this conclusion
+abbrev pub Prints : List Text → (Text → Option Text) → Conclusion → Text → Type 0
+Prints words file_of Shown text = IsViewOf words file_of Shown text
+Prints words file_of TooLarge text = IsViewOf words file_of TooLarge text
+Prints words file_of Told text = IsAbout words text
 
 -- Why a call stops before its first write.
 
@@ -96,20 +102,25 @@ LacksJournal (Some workload) file_of faults stop = LacksSecond (file_of workload
 
 -- What each status says.
 
--- the program: each status says what `Wrote`, `WrotePrefix` or `StoppedBy` of abt_shell states; its one conclusion is that a view is written
-abbrev pub program : Call → Program ⊤
+-- the program: each status says what `Wrote`, `WrotePrefix` or `StoppedBy` of abt_shell states
+abbrev pub program : Call → Program Conclusion
 program c = record {
   name = codes "abtview";
-  number = λ _. 0;
-  Prints = λ _. IsViewOf c.words c.file;
+  number = number_of_conclusion;
+  Prints = Prints c.words c.file;
   Stops = StopsView c.words c.file c.left.read_faults;
 }
 
 -- if the words ask for the view of a file whose bytes are a journal's text, the workload is known if they name one, and no fault of reading
--- or writing comes, it is written
+-- or writing comes, it is written, and the status is 8 if the words ask for a picture and the journal is too large to be drawn, and else 0
 abbrev pub IsComplete : ℕ → Call → Type 0
 IsComplete n c = (q : Request) (names : Option Parts) (bytes : Text) (J : List Event) → Asks c.words q → TellsNames q.workload c.file names
-    → c.file q.journal ≡ Some bytes → IsTextOf J bytes → (Grew c.left.read_faults → ⊥) → (Grew c.left.out_faults → ⊥) → (n ≡ 0) ⊎ (n ≡ 7)
+    → c.file q.journal ≡ Some bytes → IsTextOf J bytes → (Grew c.left.read_faults → ⊥) → (Grew c.left.out_faults → ⊥)
+    → (n ≡ number_of_conclusion (conclusion_of q.view J)) ⊎ (n ≡ 7)
+
+-- and so is what the program says of itself, if the words ask for that
+abbrev pub TellsAbout : ℕ → Call → Type 0
+TellsAbout n c = (text : Text) → IsAbout c.words text → (Grew c.left.out_faults → ⊥) → (n ≡ 0) ⊎ (n ≡ 7)
 
 -- if they name a workload's file whose bytes are no workload's text, and no fault of reading comes, the status is 3
 abbrev pub RefusesWorkloads : ℕ → Call → Type 0
@@ -129,7 +140,7 @@ MissesWorkloads n c = (q : Request) (file : Text) → Asks c.words q → q.workl
 abbrev pub MissesFiles : ℕ → Call → Type 0
 MissesFiles n c = (q : Request) (names : Option Parts) → Asks c.words q → TellsNames q.workload c.file names → c.absent q.journal → (n ≡ 5) ⊎ (n ≡ 7)
 
--- if the words ask for no view, they are refused
+-- if the words ask for nothing, they are refused
 abbrev pub RefusesWords : ℕ → Call → Type 0
 RefusesWords n c = AsksNothing c.words → (n ≡ 2) ⊎ (n ≡ 7)
 
@@ -137,6 +148,7 @@ RefusesWords n c = AsksNothing c.words → (n ≡ 2) ⊎ (n ≡ 7)
 pub record IsAnswered (n : ℕ) (c : Call) : Type 0 where
   pub cause : EndsBy (program c) c.left n
   pub complete : IsComplete n c
+  pub about : TellsAbout n c
   pub workloads : RefusesWorkloads n c
   pub texts : RefusesTexts n c
   pub words : RefusesWords n c

@@ -1,9 +1,11 @@
 pub mod Arrows
+pub mod Bands
 pub mod Call
 pub mod Frames
 pub mod Kinds
 pub mod Named
 pub mod Picture
+pub mod Shapes
 pub mod Stretches
 pub mod Trace
 pub mod Views

@@ -1,5 +1,5 @@
 -- The stretches of a stream: each is a time for which one unit is in the stream's hand.
-use Rattle.std.specs.Prelude.{ℕ, ◌+◌, ◌==◌, min, Bool, false, if◌then◌else◌, List, [], ◌∷◌, ◌++◌, flat_map, fold, max, Option, Some, None, option_map}
+use Rattle.std.specs.Prelude.{ℕ, ◌+◌, ◌-◌, ◌==◌, nat_lt, min, Bool, false, if◌then◌else◌, List, [], ◌∷◌, ◌++◌, flat_map, fold, max, Option, Some, None, option_map}
 use Rattle.std.specs.List.{range_with_len}
 use Rattle.abt_machine.specs.declared.events.Event.{Event}
 use Rattle.abt_machine.specs.declared.events.What.{What}
@@ -7,6 +7,7 @@ use Rattle.abt_machine.specs.declared.events.What.TheVariants as what
 use Rattle.abt_machine.specs.declared.grammar.Format.TheVariants as format
 use Rattle.abt_machine.specs.Limits.{stream_limit}
 use Rattle.abt_view.specs.declared.stretches.Cut.{Cut}
+use Rattle.abt_view.specs.declared.stretches.Jump.{Jump}
 use Rattle.abt_view.specs.declared.stretches.Stretch.{Stretch}
 use Rattle.abt_view.specs.declared.stretches.Turn.{Turn}
 use Rattle.abt_view.specs.declared.stretches.Turn.TheVariants.{Begins, GoesOn, Ends, Stays}
@@ -20,7 +21,7 @@ is_held (Some stretch) u = stretch.unit == u
 abbrev pub goes_on_or_begins : Option Stretch → ℕ → Turn
 goes_on_or_begins held u = if is_held held u then GoesOn else Begins u
 
--- a put of unit u belongs to its stretch, and does not change the stretch of another unit
+-- a put of unit u belongs to its stretch, and not to that of another unit, which goes on
 abbrev pub goes_on_or_stays : Option Stretch → ℕ → Turn
 goes_on_or_stays held u = if is_held held u then GoesOn else Stays
 
@@ -37,12 +38,20 @@ turn_of held (what.End u c) = goes_on_or_begins held u.0
 turn_of held (what.Enter u) = goes_on_or_begins held u.0
 turn_of held (what.Leave u) = Ends
 
--- a stretch that begins with an event, and a stretch with an event appended
+-- from an event of the stream to the next there is a jump if a stamp is between them
+abbrev pub jumps_between : ℕ → ℕ → List Jump
+jumps_between from to = if nat_lt 1 (to - from) then record { from = from; to = to } ∷ [] else []
+
+-- a stretch that begins with an event, and a stretch with an event of its unit appended
 abbrev pub begun : ℕ → Event → Stretch
-begun u e = record { stream = e.stream.0; unit = u; since = e.stamp; until = e.stamp; events = e ∷ [] }
+begun u e = record { stream = e.stream.0; unit = u; since = e.stamp; until = e.stamp; last = e.stamp; events = e ∷ []; jumps = [] }
 
 abbrev pub longer : Stretch → Event → Stretch
-longer stretch e = record stretch { until = e.stamp; events = stretch.events ++ e ∷ [] }
+longer stretch e = record stretch { until = e.stamp; last = e.stamp; events = stretch.events ++ e ∷ []; jumps = stretch.jumps ++ jumps_between stretch.last e.stamp }
+
+-- a stretch in which the stream puts another unit
+abbrev pub beside : Event → Stretch → Stretch
+beside e stretch = record stretch { last = e.stamp; jumps = stretch.jumps ++ jumps_between stretch.last e.stamp }
 
 -- the current stretch, if there is one, ends
 abbrev pub closed_by : List Stretch → Option Stretch → Cut
@@ -57,7 +66,7 @@ abbrev pub cut_by : Cut → Event → Turn → Cut
 cut_by cut e (Begins u) = record { past = (closed cut).past; held = Some (begun u e) }
 cut_by cut e GoesOn = record { past = cut.past; held = option_map (λ (stretch : Stretch). longer stretch e) cut.held }
 cut_by cut e Ends = closed cut
-cut_by cut e Stays = cut
+cut_by cut e Stays = record { past = cut.past; held = option_map (beside e) cut.held }
 
 -- the stretches of stream s after an event of any stream: that of another stream changes nothing
 abbrev pub cut_at : ℕ → Cut → Event → Cut

@@ -1,12 +1,19 @@
--- What the words of the program ask for, and what it writes.
-use Rattle.std.specs.Prelude.{◌≡◌, ◌≢◌, List, [], ◌∷◌, Option, Some, None, codes}
+-- What the words of the program ask for, what it writes, and to what it comes.
+use Rattle.std.specs.Prelude.{◌≡◌, ◌≢◌, ℕ, if◌then◌else◌, List, [], ◌∷◌, Option, Some, None, codes}
 use Rattle.abt_machine.specs.declared.events.Event.{Event}
 use Rattle.abt_machine.specs.declared.workload.Parts.{Parts}
 use Rattle.abt_machine.specs.Words.{Text}
+use Rattle.abt_view.specs.declared.about.TheConstants.{HELP, VERSION}
+use Rattle.abt_view.specs.declared.about.Topic.{Topic}
+use Rattle.abt_view.specs.declared.about.Topic.TheVariants as topic
+use Rattle.abt_view.specs.declared.views.Conclusion.{Conclusion}
+use Rattle.abt_view.specs.declared.views.Conclusion.TheVariants.{Shown, TooLarge, Told}
 use Rattle.abt_view.specs.declared.views.View.{View}
 use Rattle.abt_view.specs.declared.views.View.TheVariants as view
-use Rattle.abt_view.specs.Picture.{svg_text}
+use Rattle.abt_view.specs.Picture.{is_small, svg_text}
 use Rattle.abt_view.specs.Trace.{trace_text}
+
+-- Words.
 
 -- the word for a view
 abbrev pub view_word : View → Text
@@ -32,11 +39,51 @@ AsksFor words v journal (Some workload) =
 abbrev pub Asks : List Text → Request → Type 0
 Asks words q = AsksFor words q.view q.journal q.workload
 
+-- the word is not that of a view
+abbrev pub IsNoView : Text → Type 0
+IsNoView word = (v : View) → view_word v ≡ word → ⊥
+
+-- the word for what the program says of itself, and what it says
+abbrev pub topic_word : Topic → Text
+topic_word topic.Help = codes "--help"
+topic_word topic.Version = codes "--version"
+
+abbrev pub topic_text : Topic → Text
+topic_text topic.Help = HELP.now
+topic_text topic.Version = VERSION.now
+
+abbrev pub IsNoTopic : Text → Type 0
+IsNoTopic word = (t : Topic) → topic_word t ≡ word → ⊥
+
+-- the one word asks for what the program says of itself, and this is what it says
+abbrev pub IsAbout : List Text → Text → Type 0
+IsAbout words text = (t : Topic) × (words ≡ topic_word t ∷ []) × (text ≡ topic_text t)
+
+-- the words do not ask for a view
+abbrev pub AsksNoView : List Text → Type 0
+AsksNoView words = (q : Request) → Asks words q → ⊥
+
+-- nor for what the program says of itself
+abbrev pub AsksNoTopic : List Text → Type 0
+AsksNoTopic words = (t : Topic) → words ≡ topic_word t ∷ [] → ⊥
+
+abbrev pub AsksNothing : List Text → Type 0
+AsksNothing words = AsksNoView words × AsksNoTopic words
+
+-- Views.
+
 -- the view of a journal, with the operations that its events name if there is a workload
 abbrev pub view_text : View → Option Parts → List Event → Text
 view_text view.Svg names J = svg_text names J
 view_text view.Trace names J = trace_text names J
 
--- the word is not that of a view
-abbrev pub IsNoView : Text → Type 0
-IsNoView word = (v : View) → view_word v ≡ word → ⊥
+-- a trace shows every journal, and a picture those that are not too large
+abbrev pub conclusion_of : View → List Event → Conclusion
+conclusion_of view.Svg J = if is_small J then Shown else TooLarge
+conclusion_of view.Trace J = Shown
+
+-- the exit status, if all was written
+abbrev pub number_of_conclusion : Conclusion → ℕ
+number_of_conclusion Shown = 0
+number_of_conclusion TooLarge = 8
+number_of_conclusion Told = 0

@@ -2,21 +2,26 @@
 //! units through pools, drawn as an svg or listed as a trace.
 #![tactic(auto)]
 
+mod about;
 mod arrows;
+mod bands;
 mod frames;
 mod kinds;
 mod named;
 mod pictures;
 mod program;
+mod shapes;
 mod stretches;
+mod style;
 mod texts;
 mod traces;
 mod views;
 
+pub use about::{HELP, Topic, VERSION, asked_topic};
 pub use arrows::{Arrow, Spot, all_arrows};
 pub use frames::{Frame, all_frames};
-pub use pictures::svg;
+pub use pictures::{is_drawn, svg};
 pub use program::{NAME, abtview};
-pub use stretches::{Stretch, all_stretches};
+pub use stretches::{Jump, Stretch, all_stretches};
 pub use traces::trace;
-pub use views::{View, asked, view_text};
+pub use views::{Conclusion, View, asked, conclude, view_text};

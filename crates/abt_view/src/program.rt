@@ -5,11 +5,12 @@ ghost use Rattle.abt_machine.specs.Words.{Text};
 ghost use Rattle.abt_run.specs.Prepared.{LacksSecond};
 ghost use Rattle.abt_shell.specs.Calls.{left};
 ghost use Rattle.abt_shell.specs.Fetched.{HasNoJournal};
-ghost use Rattle.abt_shell.specs.declared.status.Stop.TheVariants.{CannotRead};
-ghost use Rattle.abt_view.specs.Call.{IsAnswered, IsFileView, IsViewOf, LacksJournal, StopsView};
-ghost use Rattle.abt_view.specs.Views.{Asks, Request, request};
+ghost use Rattle.abt_shell.specs.declared.status.Stop.TheVariants.{CannotRead, OutOfMemory};
+ghost use Rattle.abt_view.specs.Call.{IsAnswered, IsFileView, IsViewOf, LacksJournal, Prints, StopsView};
+ghost use Rattle.abt_view.specs.Views.{Asks, AsksNoTopic, Request, request, topic_text};
 
-use crate::views::{View, asked, view_text};
+use crate::about::{Topic, asked_topic};
+use crate::views::{Conclusion, View, asked, conclude, view_text};
 use abt_run::fetch;
 use abt_shell::{Stop, fetch_journal, stop_by, write_out};
 use abt_source::{Files, Sink};
@@ -18,14 +19,21 @@ use std::alloc::Global;
 /// The name of the program.
 pub const NAME: &[u8] = b"abtview";
 
+// What a call prints, and to what it comes.
+#[derive(Drop)]
+struct Prepared {
+    text: Vec<u8>,
+    conclusion: Conclusion,
+}
+
 // The view of the journal in a file.
 fn prepare_view<F: Files>(
     alloc: Global,
     view: View,
     file: &str,
     files: &mut F,
-) -> Result<Vec<u8>, Stop>
-    ensures done { IfOk result (λ text. IsFileView (request view file.now None) (λ name. F.file files.old name) text.items) }
+) -> Result<Prepared, Stop>
+    ensures done { IfOk result (λ it. IsFileView (request view file.now None) (λ name. F.file files.old name) it.conclusion it.text.items) }
     ensures stop { IfErr result (HasNoJournal (F.file files.old file.now) (F.faults files.old, F.faults files.new)) }
     ensures absent { F.absent files.old file.now → IsErrOf result CannotRead }
     ensures faulty { F.faults files.new ≢ F.faults files.old → IsErrOf result CannotRead }
@@ -33,7 +41,10 @@ fn prepare_view<F: Files>(
 {
     let journal = fetch_journal(alloc, file, files)?;
     let text = view_text(alloc, view, &None, journal.items())?;
-    Ok(text)
+    Ok(Prepared {
+        text,
+        conclusion: conclude(view, journal.items()),
+    })
 }
 
 // The view of the journal in a file, with the operations of the workload in another one, which is read first.
@@ -43,8 +54,8 @@ fn prepare_named<F: Files>(
     journal: &str,
     workload: &str,
     files: &mut F,
-) -> Result<Vec<u8>, Stop>
-    ensures done { IfOk result (λ text. IsFileView (request view journal.now (Some workload.now)) (λ name. F.file files.old name) text.items) }
+) -> Result<Prepared, Stop>
+    ensures done { IfOk result (λ it. IsFileView (request view journal.now (Some workload.now)) (λ name. F.file files.old name) it.conclusion it.text.items) }
     ensures stop { (words : List Text) → Asks words (request view journal.now (Some workload.now))
         → IfErr result (StopsView words (λ name. F.file files.old name) (F.faults files.old, F.faults files.new)) }
     ensures absent { F.absent files.old workload.now → IsErrOf result CannotRead }
@@ -55,12 +66,28 @@ fn prepare_named<F: Files>(
     let w = fetch(alloc, workload, files)?;
     let journal = fetch_journal(alloc, journal, files)?;
     let text = view_text(alloc, view, &Some(w), journal.items())?;
-    Ok(text)
+    Ok(Prepared {
+        text,
+        conclusion: conclude(view, journal.items()),
+    })
 }
 
-// The text of the view that the words ask for: all of a call except its writes.
-fn prepare<F: Files>(alloc: Global, words: &[String], files: &mut F) -> Result<Vec<u8>, Stop>
-    ensures done { IfOk result (λ text. IsViewOf (map string_bytes words.now) (λ name. F.file files.old name) text.items) }
+// What the program says of itself.
+fn prepare_topic(alloc: Global, topic: Topic) -> Result<Prepared, Stop>
+    ensures done { IfOk result (λ it. (it.text.items ≡ topic_text topic) × (it.conclusion ≡ Conclusion.Told)) }
+    ensures stop { IfErr result (λ stop. stop ≡ OutOfMemory) }
+{
+    let text = Vec::from_slice(alloc, topic.text())?;
+    Ok(Prepared {
+        text,
+        conclusion: Conclusion::Told,
+    })
+}
+
+// The view that the words ask for.
+fn prepare_asked<F: Files>(alloc: Global, words: &[String], files: &mut F) -> Result<Prepared, Stop>
+    requires { AsksNoTopic (map string_bytes words.now) }
+    ensures done { IfOk result (λ it. IsViewOf (map string_bytes words.now) (λ name. F.file files.old name) it.conclusion it.text.items) }
     ensures stop { IfErr result (StopsView (map string_bytes words.now) (λ name. F.file files.old name) (F.faults files.old, F.faults files.new)) }
     ensures missing { (q : Request) (file : Text) → Asks (map string_bytes words.now) q → q.workload ≡ Some file → F.absent files.old file → IsErrOf result CannotRead }
     ensures absent { (q : Request) → Asks (map string_bytes words.now) q → F.absent files.old q.journal
@@ -77,11 +104,27 @@ fn prepare<F: Files>(alloc: Global, words: &[String], files: &mut F) -> Result<V
     }
 }
 
+// What the words ask for: all of a call except its writes.
+fn prepare<F: Files>(alloc: Global, words: &[String], files: &mut F) -> Result<Prepared, Stop>
+    ensures done { IfOk result (λ it. Prints (map string_bytes words.now) (λ name. F.file files.old name) it.conclusion it.text.items) }
+    ensures stop { IfErr result (StopsView (map string_bytes words.now) (λ name. F.file files.old name) (F.faults files.old, F.faults files.new)) }
+    ensures missing { (q : Request) (file : Text) → Asks (map string_bytes words.now) q → q.workload ≡ Some file → F.absent files.old file → IsErrOf result CannotRead }
+    ensures absent { (q : Request) → Asks (map string_bytes words.now) q → F.absent files.old q.journal
+        → IsErrAnd result (LacksJournal q.workload (λ name. F.file files.old name) (F.faults files.old, F.faults files.new)) }
+    ensures faulty { F.faults files.new ≢ F.faults files.old → IsErrOf result CannotRead }
+    ensures later { F.faults files.old ≤ F.faults files.new }
+{
+    match asked_topic(words) {
+        Some(topic) => prepare_topic(alloc, topic),
+        None => prepare_asked(alloc, words, files),
+    }
+}
+
 /// Runs the program's command: reads the workload in a file, if the words name one, and the journal in another, and writes the
-/// journal's view.
+/// journal's view, or writes what the program says of itself.
 ///
-/// Exit statuses: 0 the view is written, 2 bad command line, 3 a file is not a workload's or a journal's text or is too long, 5 cannot
-/// read, 6 cannot write, 7 out of memory.
+/// Exit statuses: 0 all is written, 2 bad command line, 3 a file is not a workload's or a journal's text or is too long, 5 cannot
+/// read, 6 cannot write, 7 out of memory, 8 the journal is too large to be drawn, and the svg that says so is written.
 pub fn abtview<F: Files, K: Sink, E: Sink>(
     alloc: Global,
     words: &[String],
@@ -97,7 +140,7 @@ pub fn abtview<F: Files, K: Sink, E: Sink>(
     }) }
 {
     match prepare(alloc, words, files) {
-        Ok(text) => write_out(NAME, out, err, &text, 0),
+        Ok(it) => write_out(NAME, out, err, &it.text, it.conclusion.number()),
         Err(stop) => stop_by(alloc, NAME, err, stop).number(),
     }
 }

@@ -1,19 +1,29 @@
 //! The stretches of a stream.
 
 ghost use Rattle.std.specs.Prelude.{◌≡◌, ◌++◌, ◌∷◌, [], IfOk};
-ghost use Rattle.abt_view.specs.Stretches.{cut_at, all_stretches as stretches_of_all, begun, closed, goes_on_or_begins as turn_by, goes_on_or_stays as stays_by, is_held as is_held_by, longer as longer_by, streams_in, stretches_of, turn_of as turn_at, cut_by};
+ghost use Rattle.abt_view.specs.Stretches.{beside as beside_by, cut_at, all_stretches as stretches_of_all, begun, closed, goes_on_or_begins as turn_by, goes_on_or_stays as stays_by, is_held as is_held_by, jumps_between, longer as longer_by, streams_in, stretches_of, turn_of as turn_at, cut_by};
 
 use abt_machine::{Event, Format, Items, Journal, Want, What};
 use std::alloc::Global;
 
-/// A time for which one unit is in a stream's hand: its first and last stamp, and the events of the unit there.
+/// From the stamp of an event of a stream to that of its next, with a stamp between.
+#[derive(Clone, Copy)]
+pub struct Jump {
+    pub from: u64,
+    pub to: u64,
+}
+
+/// A time for which one unit is in a stream's hand: the first and last stamp of the unit, the last of the stream, the events of the unit
+/// there, and where the stream's stamps jump.
 #[derive(Drop)]
 pub struct Stretch {
     pub stream: u32,
     pub unit: u32,
     pub since: u64,
     pub until: u64,
+    pub last: u64,
     pub events: Journal,
+    pub jumps: Items<Jump>,
 }
 
 // The stretches that are over, and the one that may go on.
@@ -86,6 +96,16 @@ fn more<T: Drop>(items: Items<T>, item: T) -> Result<Items<T>, Want>
     Ok(Items::new(list))
 }
 
+// The jumps, with another if there is one between these events of the stream.
+fn notice(jumps: Items<Jump>, from: u64, to: u64) -> Result<Items<Jump>, Want>
+    ensures { IfOk result (λ more. more ≡ jumps ++ jumps_between from to) }
+{
+    if to.saturating_sub(from) > 1 {
+        return more(jumps, Jump { from, to });
+    }
+    Ok(jumps)
+}
+
 // A stretch that begins with an event. What happened has a name here and below, since the prover makes no plan for the append of
 // a type that is not named.
 fn begin(alloc: Global, u: u32, event: Event) -> Result<Stretch, Want>
@@ -100,11 +120,13 @@ fn begin(alloc: Global, u: u32, event: Event) -> Result<Stretch, Want>
         unit: u,
         since: stamp,
         until: stamp,
+        last: stamp,
         events,
+        jumps: Items::new(Vec::new(alloc)),
     })
 }
 
-// A stretch with an event appended.
+// A stretch with an event of its unit appended.
 fn longer(stretch: Stretch, event: Event) -> Result<Stretch, Want>
     ensures { IfOk result (λ longer. longer ≡ longer_by stretch event) }
 {
@@ -113,17 +135,47 @@ fn longer(stretch: Stretch, event: Event) -> Result<Stretch, Want>
         unit,
         since,
         until: _,
+        last,
         events,
+        jumps,
     } = stretch;
     let until = event.stamp;
     let what: What = event.what;
     let events = more(events, Event { what, ..event })?;
+    let jumps = notice(jumps, last, until)?;
     Ok(Stretch {
         stream,
         unit,
         since,
         until,
+        last: until,
         events,
+        jumps,
+    })
+}
+
+// A stretch in which the stream puts another unit.
+fn beside(stretch: Stretch, event: Event) -> Result<Stretch, Want>
+    ensures { IfOk result (λ longer. longer ≡ beside_by event stretch) }
+{
+    let Stretch {
+        stream,
+        unit,
+        since,
+        until,
+        last,
+        events,
+        jumps,
+    } = stretch;
+    let jumps = notice(jumps, last, event.stamp)?;
+    Ok(Stretch {
+        stream,
+        unit,
+        since,
+        until,
+        last: event.stamp,
+        events,
+        jumps,
     })
 }
 
@@ -170,6 +222,23 @@ fn go_on(cut: Cut, event: Event) -> Result<Cut, Want>
     }
 }
 
+// Goes on with the current stretch, if there is one, while the stream puts another unit.
+fn stay(cut: Cut, event: Event) -> Result<Cut, Want>
+    ensures { IfOk result (λ new. new ≡ cut_by cut event Turn.Stays) }
+{
+    let Cut { past, held } = cut;
+    match held {
+        None => Ok(Cut { past, held: None }),
+        Some(stretch) => {
+            let stretch = beside(stretch, event)?;
+            Ok(Cut {
+                past,
+                held: Some(stretch),
+            })
+        }
+    }
+}
+
 // Changes the stretches as an event of their stream does, by what it means for the current one.
 fn take_turn(alloc: Global, cut: Cut, event: Event, turn: Turn) -> Result<Cut, Want>
     ensures { IfOk result (λ new. new ≡ cut_by cut event turn) }
@@ -178,7 +247,7 @@ fn take_turn(alloc: Global, cut: Cut, event: Event, turn: Turn) -> Result<Cut, W
         Turn::Begins(u) => begin_another(alloc, cut, u, event),
         Turn::GoesOn => go_on(cut, event),
         Turn::Ends => close(cut),
-        Turn::Stays => Ok(cut),
+        Turn::Stays => stay(cut, event),
     }
 }
 

@@ -2,7 +2,7 @@
 
 ghost use Rattle.std.specs.Prelude.{◌≡◌, ◌++◌, IfOk, OnOk, flat_map};
 ghost use Rattle.std.specs.List.{range_with_len};
-ghost use Rattle.abt_view.specs.Trace.{arrow_text, call_text, enter_text, event_text, instant_text, item_text, leave_text, moment_text, more_text, point_text, points_text, slice_text, step_more, trace_text, track_text};
+ghost use Rattle.abt_view.specs.Trace.{arrow_text, call_text, enter_text, event_text, instant_text, item_text, leave_text, moment_text, more_text, point_text, points_text, slice_text, step_more, trace_text, track_name, track_place, track_text};
 
 use crate::arrows::{Arrow, Spot, all_arrows, spot_at};
 use crate::kinds::word;
@@ -13,8 +13,8 @@ use abt_machine::{Code, Event, Want, What, Workload};
 use std::alloc::Global;
 
 // Appends the name of a stream's track.
-fn push_track(out: &mut Vec<u8>, s: u64) -> Result<(), Want>
-    ensures { OnOk result (out.new.items ≡ out.old.items ++ track_text s) }
+fn push_track_name(out: &mut Vec<u8>, s: u64) -> Result<(), Want>
+    ensures { OnOk result (out.new.items ≡ out.old.items ++ track_name s) }
 {
     push_around(
         out,
@@ -25,7 +25,28 @@ fn push_track(out: &mut Vec<u8>, s: u64) -> Result<(), Want>
     push_around(out, b"", s, b"\"}}")
 }
 
-// Appends the names of the first tracks, as many as the count says.
+// Appends the place of a stream's track.
+fn push_track_place(out: &mut Vec<u8>, s: u64) -> Result<(), Want>
+    ensures { OnOk result (out.new.items ≡ out.old.items ++ track_place s) }
+{
+    push_around(
+        out,
+        b",\n{\"ph\":\"M\",\"pid\":0,\"tid\":",
+        s,
+        b",\"name\":\"thread_sort_index\",\"args\":{\"sort_index\":",
+    )?;
+    push_around(out, b"", s, b"}}")
+}
+
+// Appends what is said of a stream's track.
+fn push_track(out: &mut Vec<u8>, s: u64) -> Result<(), Want>
+    ensures { OnOk result (out.new.items ≡ out.old.items ++ track_text s) }
+{
+    push_track_name(out, s)?;
+    push_track_place(out, s)
+}
+
+// Appends what is said of the first tracks, as many as the count says.
 fn push_tracks(out: &mut Vec<u8>, count: u64) -> Result<(), Want>
     ensures { OnOk result (out.new.items ≡ out.old.items ++ flat_map track_text (range_with_len 0 count)) }
 {
@@ -47,7 +68,7 @@ fn push_slice(out: &mut Vec<u8>, slice: &Stretch) -> Result<(), Want>
         b",\"ts\":",
     )?;
     push_around(out, b"", slice.since, b".0,\"dur\":")?;
-    push_around(out, b"", length, b".8,\"name\":\"unit ")?;
+    push_around(out, b"", length, b".8,\"cat\":\"stretch\",\"name\":\"unit ")?;
     push_around(out, b"", u64::from(slice.unit), b"\"}")
 }
 
@@ -86,7 +107,7 @@ fn push_moment(
     ensures { OnOk result (out.new.items ≡ out.old.items ++ moment_text names.now event.now) }
 {
     push_item(out, b"X", spot_at(event), b".1")?;
-    out.extend_from_slice(b",\"dur\":0.6,\"name\":\"")?;
+    out.extend_from_slice(b",\"dur\":0.6,\"cat\":\"event\",\"name\":\"")?;
     out.extend_from_slice(word(event.what))?;
     out.extend_from_slice(b"\"")?;
     push_args(alloc, out, names, event.what)?;
@@ -133,7 +154,12 @@ fn push_enter(out: &mut Vec<u8>, event: &Event, u: u32) -> Result<(), Want>
     ensures { OnOk result (out.new.items ≡ out.old.items ++ enter_text event.now u) }
 {
     push_item(out, b"B", spot_at(event), b".9")?;
-    push_around(out, b",\"name\":\"scheduler unit ", u64::from(u), b"\"}")
+    push_around(
+        out,
+        b",\"cat\":\"frame\",\"name\":\"scheduler unit ",
+        u64::from(u),
+        b"\"}",
+    )
 }
 
 // Appends the end of a frame.

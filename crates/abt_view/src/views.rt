@@ -1,10 +1,9 @@
 //! The views of a journal, and the words that ask for them.
 
 ghost use Rattle.std.specs.Prelude.{◌≡◌, ◌≢◌, ◌↔◌, [], IfOk, IsTrue, MatchOption, codes, map, option_map, string_bytes};
-ghost use Rattle.abt_view.specs.Call.{AsksNothing};
-ghost use Rattle.abt_view.specs.Views.{Asks, IsNoView, request, view_text as text_of_view, view_word};
+ghost use Rattle.abt_view.specs.Views.{Asks, AsksNoView, IsNoView, conclusion_of, number_of_conclusion, request, view_text as text_of_view, view_word};
 
-use crate::pictures::svg;
+use crate::pictures::{is_drawn, svg};
 use crate::traces::trace;
 use abt_machine::{Event, Want, Workload};
 use std::alloc::Global;
@@ -14,6 +13,30 @@ use std::alloc::Global;
 pub enum View {
     Svg,
     Trace,
+}
+
+/// What a call comes to whose words are carried out.
+#[derive(Clone, Copy, Debug, PartialEq, Eq)]
+pub enum Conclusion {
+    /// A view shows the journal.
+    Shown,
+    /// A journal is too large to be drawn, as the svg says.
+    TooLarge,
+    /// The program has said how it is called, or its version.
+    Told,
+}
+
+impl Conclusion {
+    /// The exit status, if all was written.
+    pub fn number(self) -> u8
+        ensures { result ≡ number_of_conclusion self }
+    {
+        match self {
+            Conclusion::Shown => 0,
+            Conclusion::TooLarge => 8,
+            Conclusion::Told => 0,
+        }
+    }
 }
 
 // The view of that word.
@@ -40,7 +63,7 @@ fn may_name(journal: &str, workload: &str) -> bool
 /// What the words ask for: a view, the name of the journal's file, and that of the workload's, if they name one.
 pub fn asked(words: &[String]) -> Option<(View, &str, Option<&str>)>
     ensures { MatchOption result
-        (AsksNothing (map string_bytes words.now))
+        (AsksNoView (map string_bytes words.now))
         (λ asked. Asks (map string_bytes words.now) (request asked.0 asked.1.now (option_map (λ name. name.now) asked.2))) }
 {
     match words {
@@ -68,5 +91,20 @@ pub fn view_text(
     match view {
         View::Svg => svg(alloc, names, journal),
         View::Trace => trace(alloc, names, journal),
+    }
+}
+
+/// What a call comes to that shows this view of the journal: a picture has at most 20,000 events, and no stamp above 20,000.
+pub fn conclude(view: View, journal: &[Event]) -> Conclusion
+    ensures { result ≡ conclusion_of view journal.now }
+{
+    match view {
+        View::Svg => {
+            if is_drawn(journal) {
+                return Conclusion::Shown;
+            }
+            Conclusion::TooLarge
+        }
+        View::Trace => Conclusion::Shown,
     }
 }

@@ -1,13 +1,13 @@
 //! Lists of words, with the command that they say, if they say one.
 
 use abt_machine::Format;
-use abt_words::{Command, Schedule, WordFault, allowed_steps, default_steps, words};
+use abt_words::{Command, Schedule, Shows, WordFault, allowed_steps, default_steps, words};
 use std::alloc::{AllocError, Global};
 use std::test::Fail;
 
 // A command: to run a file, with the steps of each stream, if they are asked for, whether the journal is wanted, and how streams take
-// turns; to run it and say what units wait for; to run what is made of so many units; to check the journal of the second file against the workload of the first; to ask for the
-// flow of a file; to ask for its ends, in so many states, or for the end of a number, and whether its journal is wanted; and to ask for the
+// turns; to run it and say what units wait for; to run what is made of so many units; to check the journal of the second file against the workload of the first; to show its end or its report; to ask for
+// the flow of a file; to ask for its ends, in so many states, or for the end of a number, and whether its journal is wanted; and to ask for the
 // words and the version.
 #[derive(Clone, Copy)]
 enum Wanted {
@@ -15,6 +15,7 @@ enum Wanted {
     Why(&'static str),
     SelfRun(u32),
     Check(&'static str, &'static str),
+    Judge(&'static str, &'static str, Shows),
     Flow(&'static str),
     Explore(&'static str, Option<u64>, Option<u64>, bool),
     Help,
@@ -22,7 +23,7 @@ enum Wanted {
 }
 
 // Words with a comma between each two, and the command that they say.
-static SAID: [(&str, Wanted); 46] = [
+static SAID: [(&str, Wanted); 52] = [
     ("run,f", Wanted::Run("f", None, false, Schedule::Threads)),
     (
         "run,run",
@@ -107,6 +108,18 @@ static SAID: [(&str, Wanted); 46] = [
         "run,--in-turn,--steps,5,f,--journal",
         Wanted::Run("f", Some(5), true, Schedule::InTurn),
     ),
+    (
+        "run,f,--seed,0",
+        Wanted::Run("f", None, false, Schedule::Seed(0)),
+    ),
+    (
+        "run,--seed=007,--steps,5,f,--journal",
+        Wanted::Run("f", Some(5), true, Schedule::Seed(7)),
+    ),
+    (
+        "run,f,--seed,18446744073709551615",
+        Wanted::Run("f", None, false, Schedule::Seed(u64::MAX)),
+    ),
     ("run,--why,f", Wanted::Why("f")),
     ("self,1", Wanted::SelfRun(1)),
     ("self,126", Wanted::SelfRun(126)),
@@ -118,6 +131,15 @@ static SAID: [(&str, Wanted); 46] = [
     ("check,w,-", Wanted::Check("w", "-")),
     ("check,w,w", Wanted::Check("w", "w")),
     ("check,w,--,-j", Wanted::Check("w", "-j")),
+    ("check,--end,w,j", Wanted::Judge("w", "j", Shows::End)),
+    (
+        "run,f,--schedule,j",
+        Wanted::Judge("f", "j", Shows::Report { why: false }),
+    ),
+    (
+        "run,--why,--schedule=-,f",
+        Wanted::Judge("f", "-", Shows::Report { why: true }),
+    ),
     ("flow,f", Wanted::Flow("f")),
     ("flow,-", Wanted::Flow("-")),
     ("flow,--,--", Wanted::Flow("--")),
@@ -144,7 +166,7 @@ static SAID: [(&str, Wanted); 46] = [
 ];
 
 // Words that spell nothing.
-static REFUSED: [&str; 102] = [
+static REFUSED: [&str; 124] = [
     "",
     "walk",
     "Run,f",
@@ -202,6 +224,28 @@ static REFUSED: [&str; 102] = [
     "run,f,--in-turn,--in-turn",
     "run,f,--in-turn=1",
     "run,f,--in-turns",
+    "run,f,--seed",
+    "run,f,--seed,",
+    "run,f,--seed,+1",
+    "run,f,--seed,-1",
+    "run,f,--seed,x",
+    "run,f,--seed,18446744073709551616",
+    "run,f,--seed,1,--seed,1",
+    "run,f,--seed,1,--in-turn",
+    "self,1,--seed,1",
+    "run,f,--schedule",
+    "run,f,--schedule,",
+    "run,-,--schedule,-",
+    "run,f,g,--schedule,j",
+    "run,f,--schedule,j,--schedule,j",
+    "run,f,--schedule,j,--journal",
+    "run,f,--schedule,j,--steps,5",
+    "run,f,--schedule,j,--seed,1",
+    "run,f,--schedule,j,--in-turn",
+    "run,f,--schedule,j,--why,--why",
+    "check,w,j,--end,--end",
+    "check,w,j,--end=1",
+    "check,w,j,--schedule,k",
     "run,f,--end,1",
     "run,f,--states,5",
     "self",
@@ -281,7 +325,14 @@ fn is_command(command: &Command, wanted: &Wanted) -> bool {
         (Command::Run(run), Wanted::Why(name)) => run.file.as_str() == *name && run.why,
         (Command::SelfRun { units }, Wanted::SelfRun(wanted)) => units == wanted,
         (Command::Check(check), Wanted::Check(first, second)) => {
-            check.workload.as_str() == *first && check.journal.as_str() == *second
+            check.workload.as_str() == *first
+                && check.journal.as_str() == *second
+                && check.shows == Shows::Verdict
+        }
+        (Command::Check(check), Wanted::Judge(first, second, shows)) => {
+            check.workload.as_str() == *first
+                && check.journal.as_str() == *second
+                && check.shows == *shows
         }
         (Command::Flow { file }, Wanted::Flow(name)) => file.as_str() == *name,
         (Command::Explore(explore), Wanted::Explore(name, most, wanted, wants)) => {

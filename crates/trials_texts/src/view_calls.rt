@@ -14,9 +14,10 @@ const NOTHING: &str = "{\"traceEvents\":[
 const REFUSED: &str = "{\"traceEvents\":[
 {\"ph\":\"M\",\"pid\":0,\"name\":\"process_name\",\"args\":{\"name\":\"abtrun\"}},
 {\"ph\":\"M\",\"pid\":0,\"tid\":0,\"name\":\"thread_name\",\"args\":{\"name\":\"stream 0\"}},
-{\"ph\":\"X\",\"pid\":0,\"tid\":0,\"ts\":1.0,\"dur\":1.8,\"name\":\"unit 7\"},
-{\"ph\":\"X\",\"pid\":0,\"tid\":0,\"ts\":1.1,\"dur\":0.6,\"name\":\"take\"},
-{\"ph\":\"X\",\"pid\":0,\"tid\":0,\"ts\":2.1,\"dur\":0.6,\"name\":\"refused\"},
+{\"ph\":\"M\",\"pid\":0,\"tid\":0,\"name\":\"thread_sort_index\",\"args\":{\"sort_index\":0}},
+{\"ph\":\"X\",\"pid\":0,\"tid\":0,\"ts\":1.0,\"dur\":1.8,\"cat\":\"stretch\",\"name\":\"unit 7\"},
+{\"ph\":\"X\",\"pid\":0,\"tid\":0,\"ts\":1.1,\"dur\":0.6,\"cat\":\"event\",\"name\":\"take\"},
+{\"ph\":\"X\",\"pid\":0,\"tid\":0,\"ts\":2.1,\"dur\":0.6,\"cat\":\"event\",\"name\":\"refused\"},
 {\"ph\":\"i\",\"pid\":0,\"tid\":0,\"ts\":2.4,\"s\":\"t\",\"name\":\"refused, unit 7\"}
 ]}
 ";
@@ -24,9 +25,10 @@ const REFUSED: &str = "{\"traceEvents\":[
 const CALLED: &str = "{\"traceEvents\":[
 {\"ph\":\"M\",\"pid\":0,\"name\":\"process_name\",\"args\":{\"name\":\"abtrun\"}},
 {\"ph\":\"M\",\"pid\":0,\"tid\":0,\"name\":\"thread_name\",\"args\":{\"name\":\"stream 0\"}},
-{\"ph\":\"X\",\"pid\":0,\"tid\":0,\"ts\":1.0,\"dur\":1.8,\"name\":\"unit 7\"},
-{\"ph\":\"X\",\"pid\":0,\"tid\":0,\"ts\":1.1,\"dur\":0.6,\"name\":\"take\"},
-{\"ph\":\"X\",\"pid\":0,\"tid\":0,\"ts\":2.1,\"dur\":0.6,\"name\":\"call\"},
+{\"ph\":\"M\",\"pid\":0,\"tid\":0,\"name\":\"thread_sort_index\",\"args\":{\"sort_index\":0}},
+{\"ph\":\"X\",\"pid\":0,\"tid\":0,\"ts\":1.0,\"dur\":1.8,\"cat\":\"stretch\",\"name\":\"unit 7\"},
+{\"ph\":\"X\",\"pid\":0,\"tid\":0,\"ts\":1.1,\"dur\":0.6,\"cat\":\"event\",\"name\":\"take\"},
+{\"ph\":\"X\",\"pid\":0,\"tid\":0,\"ts\":2.1,\"dur\":0.6,\"cat\":\"event\",\"name\":\"call\"},
 {\"ph\":\"i\",\"pid\":0,\"tid\":0,\"ts\":2.4,\"s\":\"t\",\"name\":\"call, unit 7, returned 18446744073709551615\"}
 ]}
 ";
@@ -34,8 +36,9 @@ const CALLED: &str = "{\"traceEvents\":[
 const EXITED: &str = "{\"traceEvents\":[
 {\"ph\":\"M\",\"pid\":0,\"name\":\"process_name\",\"args\":{\"name\":\"abtrun\"}},
 {\"ph\":\"M\",\"pid\":0,\"tid\":0,\"name\":\"thread_name\",\"args\":{\"name\":\"stream 0\"}},
-{\"ph\":\"X\",\"pid\":0,\"tid\":0,\"ts\":1.0,\"dur\":0.8,\"name\":\"unit 7\"},
-{\"ph\":\"X\",\"pid\":0,\"tid\":0,\"ts\":1.1,\"dur\":0.6,\"name\":\"own\"},
+{\"ph\":\"M\",\"pid\":0,\"tid\":0,\"name\":\"thread_sort_index\",\"args\":{\"sort_index\":0}},
+{\"ph\":\"X\",\"pid\":0,\"tid\":0,\"ts\":1.0,\"dur\":0.8,\"cat\":\"stretch\",\"name\":\"unit 7\"},
+{\"ph\":\"X\",\"pid\":0,\"tid\":0,\"ts\":1.1,\"dur\":0.6,\"cat\":\"event\",\"name\":\"own\"},
 {\"ph\":\"i\",\"pid\":0,\"tid\":0,\"ts\":1.4,\"s\":\"t\",\"name\":\"own, unit 7\"}
 ]}
 ";
@@ -43,12 +46,14 @@ const EXITED: &str = "{\"traceEvents\":[
 const WOKEN: &str = "{\"traceEvents\":[
 {\"ph\":\"M\",\"pid\":0,\"name\":\"process_name\",\"args\":{\"name\":\"abtrun\"}},
 {\"ph\":\"M\",\"pid\":0,\"tid\":0,\"name\":\"thread_name\",\"args\":{\"name\":\"stream 0\"}},
+{\"ph\":\"M\",\"pid\":0,\"tid\":0,\"name\":\"thread_sort_index\",\"args\":{\"sort_index\":0}},
 {\"ph\":\"M\",\"pid\":0,\"tid\":1,\"name\":\"thread_name\",\"args\":{\"name\":\"stream 1\"}},
-{\"ph\":\"X\",\"pid\":0,\"tid\":0,\"ts\":1.0,\"dur\":0.8,\"name\":\"unit 7\"},
-{\"ph\":\"X\",\"pid\":0,\"tid\":1,\"ts\":3.0,\"dur\":0.8,\"name\":\"unit 8\"},
-{\"ph\":\"X\",\"pid\":0,\"tid\":0,\"ts\":1.1,\"dur\":0.6,\"name\":\"step\"},
-{\"ph\":\"X\",\"pid\":0,\"tid\":0,\"ts\":2.1,\"dur\":0.6,\"name\":\"put\"},
-{\"ph\":\"X\",\"pid\":0,\"tid\":1,\"ts\":3.1,\"dur\":0.6,\"name\":\"take\"},
+{\"ph\":\"M\",\"pid\":0,\"tid\":1,\"name\":\"thread_sort_index\",\"args\":{\"sort_index\":1}},
+{\"ph\":\"X\",\"pid\":0,\"tid\":0,\"ts\":1.0,\"dur\":0.8,\"cat\":\"stretch\",\"name\":\"unit 7\"},
+{\"ph\":\"X\",\"pid\":0,\"tid\":1,\"ts\":3.0,\"dur\":0.8,\"cat\":\"stretch\",\"name\":\"unit 8\"},
+{\"ph\":\"X\",\"pid\":0,\"tid\":0,\"ts\":1.1,\"dur\":0.6,\"cat\":\"event\",\"name\":\"step\"},
+{\"ph\":\"X\",\"pid\":0,\"tid\":0,\"ts\":2.1,\"dur\":0.6,\"cat\":\"event\",\"name\":\"put\"},
+{\"ph\":\"X\",\"pid\":0,\"tid\":1,\"ts\":3.1,\"dur\":0.6,\"cat\":\"event\",\"name\":\"take\"},
 {\"ph\":\"s\",\"pid\":0,\"tid\":0,\"ts\":1.4,\"bp\":\"e\",\"cat\":\"pool\",\"name\":\"unit 8\",\"id\":\"200\"},
 {\"ph\":\"t\",\"pid\":0,\"tid\":0,\"ts\":2.4,\"bp\":\"e\",\"cat\":\"pool\",\"name\":\"unit 8\",\"id\":\"200\"},
 {\"ph\":\"f\",\"pid\":0,\"tid\":1,\"ts\":3.4,\"bp\":\"e\",\"cat\":\"pool\",\"name\":\"unit 8\",\"id\":\"200\"}
@@ -71,14 +76,15 @@ end
 const NAMED: &str = "{\"traceEvents\":[
 {\"ph\":\"M\",\"pid\":0,\"name\":\"process_name\",\"args\":{\"name\":\"abtrun\"}},
 {\"ph\":\"M\",\"pid\":0,\"tid\":0,\"name\":\"thread_name\",\"args\":{\"name\":\"stream 0\"}},
-{\"ph\":\"X\",\"pid\":0,\"tid\":0,\"ts\":1.0,\"dur\":3.8,\"name\":\"unit 0\"},
-{\"ph\":\"X\",\"pid\":0,\"tid\":0,\"ts\":5.0,\"dur\":0.8,\"name\":\"unit 1\"},
-{\"ph\":\"X\",\"pid\":0,\"tid\":0,\"ts\":1.1,\"dur\":0.6,\"name\":\"look\"},
-{\"ph\":\"X\",\"pid\":0,\"tid\":0,\"ts\":2.1,\"dur\":0.6,\"name\":\"step\",\"args\":{\"operation\":\"say <\\\"\\\\&'>\"}},
-{\"ph\":\"X\",\"pid\":0,\"tid\":0,\"ts\":3.1,\"dur\":0.6,\"name\":\"call\",\"args\":{\"operation\":\"call 0\"}},
+{\"ph\":\"M\",\"pid\":0,\"tid\":0,\"name\":\"thread_sort_index\",\"args\":{\"sort_index\":0}},
+{\"ph\":\"X\",\"pid\":0,\"tid\":0,\"ts\":1.0,\"dur\":3.8,\"cat\":\"stretch\",\"name\":\"unit 0\"},
+{\"ph\":\"X\",\"pid\":0,\"tid\":0,\"ts\":5.0,\"dur\":0.8,\"cat\":\"stretch\",\"name\":\"unit 1\"},
+{\"ph\":\"X\",\"pid\":0,\"tid\":0,\"ts\":1.1,\"dur\":0.6,\"cat\":\"event\",\"name\":\"look\"},
+{\"ph\":\"X\",\"pid\":0,\"tid\":0,\"ts\":2.1,\"dur\":0.6,\"cat\":\"event\",\"name\":\"step\",\"args\":{\"operation\":\"say <\\\"\\\\&'>\"}},
+{\"ph\":\"X\",\"pid\":0,\"tid\":0,\"ts\":3.1,\"dur\":0.6,\"cat\":\"event\",\"name\":\"call\",\"args\":{\"operation\":\"call 0\"}},
 {\"ph\":\"i\",\"pid\":0,\"tid\":0,\"ts\":3.4,\"s\":\"t\",\"name\":\"call, unit 0, returned 7\"},
-{\"ph\":\"X\",\"pid\":0,\"tid\":0,\"ts\":4.1,\"dur\":0.6,\"name\":\"step\"},
-{\"ph\":\"X\",\"pid\":0,\"tid\":0,\"ts\":5.1,\"dur\":0.6,\"name\":\"step\"}
+{\"ph\":\"X\",\"pid\":0,\"tid\":0,\"ts\":4.1,\"dur\":0.6,\"cat\":\"event\",\"name\":\"step\"},
+{\"ph\":\"X\",\"pid\":0,\"tid\":0,\"ts\":5.1,\"dur\":0.6,\"cat\":\"event\",\"name\":\"step\"}
 ]}
 ";
 
@@ -96,7 +102,7 @@ type Row = (
     &'static str,
 );
 
-static ROWS: [Row; 27] = [
+static ROWS: [Row; 30] = [
     ("trace,f", "", NEVER, 0, NOTHING, ""),
     (
         "trace,f",
@@ -123,12 +129,12 @@ static ROWS: [Row; 27] = [
         WOKEN,
         "",
     ),
-    ("svg,f", "20001 0 miss 0\n", NEVER, 0, LONG, ""),
+    ("svg,f", "20001 0 miss 0\n", NEVER, 8, LONG, ""),
     (
         "svg,f",
         "18446744073709551615 0 miss 0\n",
         NEVER,
-        0,
+        8,
         LONG,
         "",
     ),
@@ -141,7 +147,18 @@ static ROWS: [Row; 27] = [
         NAMED,
         "",
     ),
-    ("svg,f,w", "20001 0 miss 0\n", NEVER, 0, LONG, ""),
+    ("svg,f,w", "20001 0 miss 0\n", NEVER, 8, LONG, ""),
+    // what the program says of itself, for the only word
+    (
+        "--help",
+        "",
+        2,
+        6,
+        "abtview draws the ",
+        "abtview: cannot write\n",
+    ),
+    ("--version", "", NEVER, 0, "abtview 1\n", ""),
+    ("--help,f", "", NEVER, 2, "", "abtview: bad command line\n"),
     // words that say nothing
     ("svg", "", NEVER, 2, "", "abtview: bad command line\n"),
     ("svg,f,w,w", "", NEVER, 2, "", "abtview: bad command line\n"),

@@ -4,6 +4,6 @@ use Rattle.abt_view.proofs.pictures.push_axis.Goals as goal
 
 pub returns : goal.returns
 returns c =
-    if-ok c.push_legend.result _ _
-    (λ _ last. three _ _ _ _ _ _ _ (rw c.greatest_stamp-last.ensures at c.in_ok-push_ticks.ensures) (rw c.count_streams-streams.ensures at c.in_ok-push_lanes.ensures)
-    (rw c.count_streams-streams.ensures at last)) c.push_legend.ensures
+    if-ok c.push_columns_in.result _ _
+    (λ _ last. three _ _ _ _ _ _ _ (rw (c.band_height.ensures.height, c.count_streams.ensures) at c.in_ok-push_window.ensures) (rw c.greatest_stamp-last.ensures at c.in_ok-push_ticks_in.ensures)
+    (rw c.greatest_stamp-last.ensures at last)) c.push_columns_in.ensures

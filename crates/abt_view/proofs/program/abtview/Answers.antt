@@ -1,16 +1,16 @@
-use Rattle.std.proofs.Common.{inl, refl, rules}
+use Rattle.std.proofs.Common.{inl, rules}
 use Rattle.abt_shell.proofs.Calls.{concluded, missing-ends, not-stopped, stopped, stopped-by}
 use Rattle.abt_view.proofs.Complete.{answered}
 use Rattle.abt_view.proofs.Requests.{lacks-journal}
 use Rattle.abt_view.proofs.program.abtview.Goals as goal
 
 pub returns-in-Ok : goal.returns-in-Ok
-returns-in-Ok g c = answered _ _ (concluded _ _ tt c.in-Ok.text.items 0 _ c.in-Ok.ensures.done refl (rw c.deref.ensures.value at c.write_out.ensures))
+returns-in-Ok g c = answered _ _ (concluded _ _ c.in-Ok.it.conclusion c.in-Ok.it.text.items _ _ c.in-Ok.ensures.done c.number.ensures (rw c.deref.ensures.value at c.write_out.ensures))
     (λ q file asks names gone. absurd (not-stopped _ _ (c.in-Ok.ensures.missing q file asks names gone))) (λ q names asks tells gone. absurd (c.in-Ok.ensures.absent q asks gone))
     (λ fault. absurd (not-stopped _ _ (c.in-Ok.ensures.faulty fault)))
 
 pub returns-in-Err : goal.returns-in-Err
-returns-in-Err g c = answered _ _ (stopped _ _ c.in-Err.stop c.stop_by.result _ c.in-Err.ensures.stop tt c.number.ensures (search rules) c.stop_by.ensures.told c.stop_by.ensures.same)
-    (λ q file asks names gone. missing-ends _ c.in-Err.stop c.stop_by.result (inl (stopped-by _ _ (c.in-Err.ensures.missing q file asks names gone))) c.number.ensures c.stop_by.ensures.same)
-    (λ q names asks tells gone. missing-ends _ c.in-Err.stop c.stop_by.result (lacks-journal _ _ names _ c.in-Err.stop tells (c.in-Err.ensures.absent q asks gone)) c.number.ensures c.stop_by.ensures.same)
-    (λ fault. missing-ends _ c.in-Err.stop c.stop_by.result (inl (stopped-by _ _ (c.in-Err.ensures.faulty fault))) c.number.ensures c.stop_by.ensures.same)
+returns-in-Err g c = answered _ _ (stopped _ _ c.in-Err.stop c.stop_by.result _ c.in-Err.ensures.stop tt c.number-in-Err.ensures (search rules) c.stop_by.ensures.told c.stop_by.ensures.same)
+    (λ q file asks names gone. missing-ends _ c.in-Err.stop c.stop_by.result (inl (stopped-by _ _ (c.in-Err.ensures.missing q file asks names gone))) c.number-in-Err.ensures c.stop_by.ensures.same)
+    (λ q names asks tells gone. missing-ends _ c.in-Err.stop c.stop_by.result (lacks-journal _ _ names _ c.in-Err.stop tells (c.in-Err.ensures.absent q asks gone)) c.number-in-Err.ensures c.stop_by.ensures.same)
+    (λ fault. missing-ends _ c.in-Err.stop c.stop_by.result (inl (stopped-by _ _ (c.in-Err.ensures.faulty fault))) c.number-in-Err.ensures c.stop_by.ensures.same)

@@ -1,40 +1,22 @@
-use Rattle.std.proofs.Common.{arith, map, refl, string_bytes, None, Some}
+use Rattle.std.proofs.Common.{sym, subst}
 use Rattle.abt_shell.proofs.Calls.{if-err, if-ok}
-use Rattle.abt_view.specs.Views.{Asks, request}
-use Rattle.abt_view.proofs.Preparing.{no-journal-stops}
+use Rattle.abt_view.specs.Call.{StopsView}
+use Rattle.abt_view.proofs.Concluding.{about-prints, viewed}
+use Rattle.abt_view.proofs.Requests.{asks-none}
 use Rattle.abt_view.proofs.program.prepare.Goals as goal
 
-pub returns-in-Some-default-default-None-clause-done : goal.returns-in-Some-default-default-None-clause-done
-returns-in-Some-default-default-None-clause-done g c =
-    let asks : Asks (map string_bytes c.args.words.now) (request c.in-Some-default-default-None.view c.in-Some-default-default-None.journal.now None) =
-    rw c.in-Some-default-default-None.field-0-2-is at c.in-Some-default-default-None.ensures in
-    if-ok c.prepare_view.result _ _ (λ text shown. record { request = request c.in-Some-default-default-None.view c.in-Some-default-default-None.journal.now None; asks = asks; shown = shown })
-    c.prepare_view.ensures.done
+pub returns-in-Some-clause-done : goal.returns-in-Some-clause-done
+returns-in-Some-clause-done g c =
+    if-ok c.prepare_topic.result _ _ (λ it known. about-prints _ _ it.conclusion it.text.items c.in-Some.topic c.in-Some.ensures known.0 known.1) c.prepare_topic.ensures.done
 
-pub returns-in-Some-default-default-None-clause-stop : goal.returns-in-Some-default-default-None-clause-stop
-returns-in-Some-default-default-None-clause-stop g c =
-    let asks : Asks (map string_bytes c.args.words.now) (request c.in-Some-default-default-None.view c.in-Some-default-default-None.journal.now None) =
-    rw c.in-Some-default-default-None.field-0-2-is at c.in-Some-default-default-None.ensures in
-    if-err c.prepare_view.result _ _
-    (λ s h. no-journal-stops _ _ (request c.in-Some-default-default-None.view c.in-Some-default-default-None.journal.now None) None _ _ _ _ asks refl refl (omega arith) c.prepare_view.ensures.later s h)
-    c.prepare_view.ensures.stop
+pub returns-in-Some-clause-stop : goal.returns-in-Some-clause-stop
+returns-in-Some-clause-stop g c = if-err c.prepare_topic.result _ _ (λ stop is. subst (StopsView _ _ _) (sym is) tt) c.prepare_topic.ensures.stop
 
-pub returns-in-Some-default-default-Some-clause-done : goal.returns-in-Some-default-default-Some-clause-done
-returns-in-Some-default-default-Some-clause-done g c =
-    let asks : Asks (map string_bytes c.args.words.now) (request c.in-Some-default-default-Some.view c.in-Some-default-default-Some.journal.now (Some c.in-Some-default-default-Some.workload.now)) =
-    rw c.in-Some-default-default-Some.field-0-2-is at c.in-Some-default-default-Some.ensures in
-    if-ok c.prepare_named.result _ _
-    (λ text shown. record { request = request c.in-Some-default-default-Some.view c.in-Some-default-default-Some.journal.now (Some c.in-Some-default-default-Some.workload.now); asks = asks; shown = shown })
-    c.prepare_named.ensures.done
+pub returns-in-Some-clause-missing : goal.returns-in-Some-clause-missing
+returns-in-Some-clause-missing g c = λ q file asks names gone. absurd (asks-none _ c.in-Some.topic q c.in-Some.ensures asks)
 
-pub returns-in-Some-default-default-Some-clause-stop : goal.returns-in-Some-default-default-Some-clause-stop
-returns-in-Some-default-default-Some-clause-stop g c =
-    let asks : Asks (map string_bytes c.args.words.now) (request c.in-Some-default-default-Some.view c.in-Some-default-default-Some.journal.now (Some c.in-Some-default-default-Some.workload.now)) =
-    rw c.in-Some-default-default-Some.field-0-2-is at c.in-Some-default-default-Some.ensures in
-    c.prepare_named.ensures.stop _ asks
+pub returns-in-Some-clause-absent : goal.returns-in-Some-clause-absent
+returns-in-Some-clause-absent g c = λ q asks gone. absurd (asks-none _ c.in-Some.topic q c.in-Some.ensures asks)
 
-pub returns-in-None-clause-missing : goal.returns-in-None-clause-missing
-returns-in-None-clause-missing g c = λ q file asks names gone. absurd (c.in-None.ensures q asks)
-
-pub returns-in-None-clause-absent : goal.returns-in-None-clause-absent
-returns-in-None-clause-absent g c = λ q asks gone. absurd (c.in-None.ensures q asks)
+pub returns-in-None-clause-done : goal.returns-in-None-clause-done
+returns-in-None-clause-done g c = if-ok c.prepare_asked.result _ _ (λ it view. viewed _ _ it.conclusion it.text.items view) c.prepare_asked.ensures.done

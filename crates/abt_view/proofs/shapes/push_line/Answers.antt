@@ -1,6 +1,6 @@
 use Rattle.abt_view.proofs.Joining.{five}
 use Rattle.abt_shell.proofs.Calls.{if-ok}
-use Rattle.abt_view.proofs.pictures.push_line.Goals as goal
+use Rattle.abt_view.proofs.shapes.push_line.Goals as goal
 
 pub returns : goal.returns
 returns c =

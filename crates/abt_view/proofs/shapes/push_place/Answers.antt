@@ -1,6 +1,6 @@
 use Rattle.abt_view.proofs.Joining.{three}
 use Rattle.abt_shell.proofs.Calls.{if-ok}
-use Rattle.abt_view.proofs.pictures.push_place.Goals as goal
+use Rattle.abt_view.proofs.shapes.push_place.Goals as goal
 
 pub returns : goal.returns
 returns c =
