@@ -1,11 +1,14 @@
 -- What a call of the program was given, and what each status says of what it left.
-use Rattle.std.specs.Prelude.{◌≡◌, ◌≢◌, ℕ, List, [], ◌∷◌, ◌++◌, codes, decimal, ⊤}
+use Rattle.std.specs.Prelude.{◌≡◌, ◌≢◌, ◌⊎◌, ℕ, List, [], ◌∷◌, ◌++◌, codes, decimal, ⊤}
 use Rattle.abt_machine.specs.Spelling.{SaysNumber}
 use Rattle.abt_machine.specs.Words.{Text, ended}
 use Rattle.abt_shell.specs.declared.status.Stop.{Stop}
 use Rattle.abt_shell.specs.declared.status.Stop.TheVariants.{BadWords, BadLine, CannotRead, OutOfMemory}
 use Rattle.abt_shell.specs.Calls.{EndsBy, Left, Program}
 use Rattle.abt_shell.specs.Told.{Grew}
+use Rattle.abt_words.specs.declared.itself.Topic.{Topic}
+use Rattle.abt_words.specs.declared.itself.Topic.TheVariants.{Help, Version}
+use Rattle.abt_words.specs.About.{AsksAbout}
 use Rattle.abt_callbacks.specs.declared.fold.FoldShape.{FoldShape}
 use Rattle.abt_callbacks.specs.Folding.{number_limit}
 use Rattle.abt_callbacks.specs.Futures.{CalledFutureValue}
@@ -28,9 +31,13 @@ pub record Asks (words : List Text) (workers n : ℕ) : Type 0 where
   pub says_workers : SaysNumber worker_limit first workers
   pub says_numbers : SaysNumber number_limit second n
 
--- they ask for nothing
+-- they do not
+abbrev pub AsksNoSum : List Text → Type 0
+AsksNoSum words = (workers n : ℕ) → Asks words workers n → ⊥
+
+-- they ask neither for a sum nor about the program
 abbrev pub AsksNothing : List Text → Type 0
-AsksNothing words = (workers n : ℕ) → Asks words workers n → ⊥
+AsksNothing words = AsksNoSum words × ((topic : Topic) → AsksAbout words topic → ⊥)
 
 -- they ask for a sum
 pub record AsksSum (words : List Text) : Type 0 where
@@ -54,6 +61,17 @@ pub record IsSumLine {F : Type 0} (shape_of : F → FoldShape) (May : F → List
   pub asked : AsksSum words
   pub made : IsLineOf shape_of May fold asked.workers asked.numbers text
 
+-- what the program says of itself
+abbrev pub about_text : Topic → Text
+about_text Help = codes "abtfold W N\nabtfold --help\nabtfold --version\n"
+about_text Version = codes "abtfold 1\n"
+
+-- the words ask about the program, and the text is what it says of itself
+pub record Explains (words : List Text) (text : Text) : Type 0 where
+  pub topic : Topic
+  pub asks : AsksAbout words topic
+  pub says : text ≡ about_text topic
+
 -- Why a call stops before its first write. It reads nothing.
 abbrev pub StopsFold : List Text → Stop → Type 0
 StopsFold words BadWords = AsksNothing words
@@ -61,17 +79,20 @@ StopsFold words (BadLine line w) = ⊥
 StopsFold words CannotRead = ⊥
 StopsFold words OutOfMemory = AsksSum words
 
--- the program, of which each status says what `Wrote`, `WrotePrefix` or `StoppedBy` of abt_shell has; it comes to a sum
+-- the program, of which each status says what `Wrote`, `WrotePrefix` or `StoppedBy` of abt_shell has; its one conclusion is that it has
+-- said what it was asked
 abbrev pub program : {F : Type 0} → (F → FoldShape) → (F → List ℕ → ℕ → Type 0) → F → Call → Program ⊤
 program shape_of May fold c = record {
   name = codes "abtfold";
   number = λ _. 0;
-  Prints = λ _. IsSumLine shape_of May fold c.words;
+  Prints = λ _ text. IsSumLine shape_of May fold c.words text ⊎ Explains c.words text;
   Stops = StopsFold c.words;
 }
 
--- The exit status has its cause. The words decide whether it is 2, and if no write fails it is 0, 2 or 7.
+-- The exit status has its cause. The words decide whether it is 2, and if no write fails it is 0, 2 or 7, and 0 if they ask about the
+-- program.
 pub record IsAnswered {F : Type 0} (shape_of : F → FoldShape) (May : F → List ℕ → ℕ → Type 0) (fold : F) (n : ℕ) (c : Call) : Type 0 where
   pub cause : EndsBy (program shape_of May fold c) c.left n
   pub words : AsksNothing c.words → n ≡ 2
+  pub explains : (topic : Topic) → AsksAbout c.words topic → (Grew c.left.out_faults → ⊥) → n ≡ 0
   pub writes : (Grew c.left.out_faults → ⊥) → n ≢ 6

@@ -6,7 +6,7 @@ ghost use Rattle.abt_shell.specs.Calls.{left};
 ghost use Rattle.abt_shell.specs.Told.{IsTold};
 ghost use Rattle.abt_callbacks.specs.declared.fold.FoldShape.TheVariants as shape;
 ghost use Rattle.abt_callbacks.specs.Folding.{number_limit};
-ghost use Rattle.abt_callbacks.specs.Program.{Asks, AsksNothing, IsAnswered, IsLineOf};
+ghost use Rattle.abt_callbacks.specs.Program.{Asks, AsksNoSum, IsAnswered, IsLineOf, about_text};
 
 use crate::fold::Fold;
 use crate::folding::fold_on_threads;
@@ -14,12 +14,19 @@ use abt_lines::{end_line, push_number};
 use abt_machine::Want;
 use abt_shell::{Stop, write_out};
 use abt_source::{Sink, write_whole};
+use abt_words::{Topic, about};
 use std::alloc::Global;
 use std::sync::Wait;
 use std::thread::Threads;
 
 /// The name of the program.
 pub const NAME: &[u8] = b"abtfold";
+
+// The program's words.
+const HELP: &[u8] = b"abtfold W N\nabtfold --help\nabtfold --version\n";
+
+// The program's version.
+const VERSION: &[u8] = b"abtfold 1\n";
 
 // The maximum number of workers.
 const WORKER_LIMIT: u32 = 8;
@@ -28,9 +35,9 @@ const WORKER_LIMIT: u32 = 8;
 const NUMBER_LIMIT: u32 = 4096;
 
 /// What the command of the program does: folds the numbers from 1 to N with W workers on threads, and writes the sum. The words
-/// are W, from 1 to 8, and N, from 1 to 4,096.
+/// are W, from 1 to 8, and N, from 1 to 4,096; or `--help` or `--version`, which ask what the program says of itself.
 ///
-/// Exit statuses: 0 the sum is written, 2 bad command line, 6 cannot write, 7 out of memory.
+/// Exit statuses: 0 the sum, or what the program says of itself, is written, 2 bad command line, 6 cannot write, 7 out of memory.
 pub fn abtfold<R: Threads + Wait + Sync, K: Sink, E: Sink, F: Fold + Send + Drop>(
     rt: &R,
     alloc: Global,
@@ -45,6 +52,9 @@ pub fn abtfold<R: Threads + Wait + Sync, K: Sink, E: Sink, F: Fold + Send + Drop
       left = left (0, 0) (K.taken out.old, K.taken out.new) (K.faults out.old, K.faults out.new) (E.taken err.old, E.taken err.new) (E.faults err.old, E.faults err.new);
     }) }
 {
+    if let Some(topic) = about(words) {
+        return write_out(NAME, out, err, about_text(topic), 0);
+    }
     let Some((workers, n)) = asked(words) else {
         tell(err, b"abtfold: bad command line\n");
         return Stop::BadWords.number();
@@ -63,9 +73,19 @@ fn tell<E: Sink>(err: &mut E, message: &[u8])
     let _ = write_whole(err, message);
 }
 
+// What the program says of itself.
+fn about_text(topic: Topic) -> &'static [u8]
+    ensures { result.now ≡ about_text topic }
+{
+    match topic {
+        Topic::Help => HELP,
+        Topic::Version => VERSION,
+    }
+}
+
 // How many workers and numbers the words ask for.
 fn asked(words: &[String]) -> Option<(u32, u32)>
-    ensures { MatchOption result (AsksNothing (map string_bytes words.now)) (λ asked. Asks (map string_bytes words.now) asked.0 asked.1) }
+    ensures { MatchOption result (AsksNoSum (map string_bytes words.now)) (λ asked. Asks (map string_bytes words.now) asked.0 asked.1) }
 {
     let [workers, n] = words else {
         return None;
