@@ -30,7 +30,7 @@ ROWS
 try_bad_words() {
     local words
     for words in '' 3 '3 100 1' '0 5' '9 5' '3 0' '3 4097' '-3 5' '+3 5' '3 -5' '3 +5' '3x 5' '3 5x' '3.0 5' '0x3 5' 'three 5' \
-        '3 4294967297' '18446744073709551617 5' '3 99999999999999999999999999999999' '-- 3 100' '--help' '-h' '--version' help; do
+        '3 4294967297' '18446744073709551617 5' '3 99999999999999999999999999999999' '-- 3 100' '--help 3' '-h' '--version --help' help; do
         call "$program" $words
         came "the words '$words'" 2 "" "$words_are_bad"
     done
@@ -48,6 +48,14 @@ try_bad_words() {
     came "a word that is not UTF-8" 2 "" "$words_are_bad"
     call "$program" ٣ 100
     came "digits that are not ASCII" 2 "" "$words_are_bad"
+}
+
+# What the program says of itself.
+try_itself() {
+    call "$program" --help
+    came "its words" 0 "$(printf 'abtfold %s\n' 'W N' --help --version)" ""
+    call "$program" --version
+    came "its version" 0 "abtfold 1" ""
 }
 
 # Each write fails in turn, and writes move few bytes.
@@ -94,6 +102,7 @@ if ! make_meddler; then
 fi
 try_sums
 try_bad_words
+try_itself
 try_few_bytes
 try_writing
 try_sleeps

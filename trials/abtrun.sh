@@ -208,13 +208,34 @@ try_full() {
     tries_full 3 4 16 2000 65536 1000000
 }
 
+# many_objects_text: a workload of 65,536 objects, all mutexes but the last, which is a condition of the one before it.
+many_objects_text() {
+    printf '%s\n' 'abt 3' 'streams 1' 'pool 0 fifo mpmc' 'sched 0 prio 0' 'stream 0 main 0'
+    seq 0 65534 | sed 's/.*/object & mutex/'
+    printf '%s\n' 'object 65535 cond 65534' 'units 2' 'unit 0 ult at 0' 'lock 65534' 'cwait 65535' 'set 1' 'unlock 65534' print \
+        'unit 1 ult at 0' 'lock 65534' 'signal 65535' 'unlock 65534' end
+}
+
+# As many objects as there may be, which take time in their number alone.
+try_many_objects() {
+    many_objects_text >"$room/text.abt"
+    call bash -c 'ulimit -t 10 && exec "$@"' - "$program" run "$room/text.abt"
+    holds "65,536 objects: the status" [ "$status" = 0 ]
+    holds "65,536 objects: what unit 0 prints" grep -qx 'unit 0 done: 1' "$room/out"
+    call bash -c 'ulimit -t 10 && exec "$@"' - "$program" run "$room/text.abt" --why
+    holds "65,536 objects, replayed: the status" [ "$status" = 0 ]
+}
+
 # Words that are no command, each with the words parted by blanks.
 try_bad_words() {
     local words
     for words in '' walk run 'run --journal' "run $hi more" "run $hi --journal --steps 5 more" "run $hi --steps" "run $hi --steps 0" "run $hi --steps 100001" \
         "run $hi --steps -1" "run $hi --steps +1" "run $hi --steps 1x" "run $hi --steps 5 --steps=5" "run $hi --journal --journal" \
         "run $hi --journal=x" "run $hi --help" "run $hi -j" "run -x" self 'self 0' 'self 127' 'self 1 2' 'self -1' 'self x' \
-        'self 99999999999999999999' 'self 3 --journal' Run '--help self' '-h' '--version --help' help "run $hi --in-turn --in-turn" "run $hi --in-turn=1" "-- run $hi" "$hi"; do
+        'self 99999999999999999999' 'self 3 --journal' Run '--help self' '-h' '--version --help' help "run $hi --in-turn --in-turn" "run $hi --in-turn=1" \
+        "run $hi --seed" "run $hi --seed -1" "run $hi --seed 18446744073709551616" "run $hi --seed 1 --seed 1" "run $hi --seed 1 --in-turn" 'self 3 --seed 1' \
+        "run $hi --schedule" "run $hi --schedule=" "run - --schedule -" "run $hi --schedule j --schedule j" "run $hi --schedule j --journal" \
+        "run $hi --schedule j --steps 5" "run $hi --schedule j --seed 1" "run $hi --schedule j --in-turn" "check $hi j --end --end" "check $hi j --end=1" "-- run $hi" "$hi"; do
         call "$program" $words
         came "the words '$words'" 2 "" "$words_are_bad"
     done
@@ -242,7 +263,7 @@ try_words() {
     local file turn
     call "$program" --help
     holds "help: the status" [ "$status $(wc -c <"$room/err")" = "0 0" ]
-    holds "help: the commands" [ "$(sed 's/^abtrun //; s/ .*//' "$room/out" | xargs)" = "run self check flow explore --help --version" ]
+    holds "help: the commands" [ "$(sed 's/^abtrun //; s/ .*//' "$room/out" | xargs)" = "run run self check flow explore --help --version" ]
     call "$program" --version
     came "the version" 0 "abtrun 1" ""
     call "$program" run "$data/stuck.abt" --why
@@ -262,6 +283,100 @@ try_words() {
         call "$program" check "$data/$file.abt" "$room/turn.journal"
         came "$file in turn: the journal" 0 "run" ""
     done
+}
+
+# abreast FIRST SECOND: the journal of a run in two rotations whose first streams are these.
+abreast() {
+    local stamp=0 event
+    { for event in "$1 take $1 $1" "$1 look $1" "$1 step $1 0 ok" "$((1 - $1)) take $((1 - $1)) $((1 - $1))" "$((1 - $1)) look $((1 - $1))" \
+        "$((1 - $1)) step $((1 - $1)) 0 ok" "$2 end $2 done" "$2 miss $2" "$((1 - $2)) end $((1 - $2)) done" "$((1 - $2)) miss $((1 - $2))"; do
+        stamp=$((stamp + 1))
+        echo "$stamp $event"
+    done; }
+}
+
+# Runs by seeds: PCG32's first and third words of sequence 2 are even for seed 0, odd for seed 1, odd and even for seed 2, and even and
+# odd for seed 8. Each run is the same again, and a run.
+try_seeds() {
+    local seed first second file turn
+    printf '%s\n' 'abt 1' 'streams 2' 'pool 0 fifo mpmc' 'pool 1 fifo mpmc' 'sched 0 prio 0' 'sched 1 prio 1' 'stream 0 main 0' \
+        'stream 1 main 1' 'units 2' 'unit 0 ult at 0' 'say a' 'unit 1 ult at 1' 'say b' end >"$room/abreast.abt"
+    while read -r seed first second; do
+        call "$program" run "$room/abreast.abt" --seed "$seed" --journal
+        { abreast "$first" "$second" && printf '%s\n' 'unit 0 done: a' 'unit 1 done: b' \
+            'tally units 2 unborn 0 pool 0 stream 0 blocked 0 done 2 asked 0 access 0 steps 2' finished; } >"$room/abreast.out"
+        came "the run of seed $seed" 0 "@$room/abreast.out" ""
+    done <<'END'
+0 0 0
+1 1 1
+02 1 0
+8 0 1
+18446744073709551615 1 1
+END
+    call "$program" run "$hi" --seed=7 --journal
+    cp "$room/out" "$room/seed.7"
+    call "$program" run "$hi" --in-turn --journal
+    holds "one stream: the seed is without effect" cmp -s "$room/out" "$room/seed.7"
+    call "$program" run "$data/stuck.abt" --seed 1 --why
+    came "a stuck run of a seed" 1 "@$room/why.out" ""
+    for file in hi stealing collatz barrier; do
+        for turn in 1 2; do
+            call "$program" run "$data/$file.abt" --seed 5 --journal
+            holds "$file by seed 5: the status" [ "$status" = 0 ]
+            cp "$room/out" "$room/turn.$turn"
+        done
+        holds "$file by seed 5: the same again" cmp -s "$room/turn.1" "$room/turn.2"
+        grep '^[0-9]' "$room/turn.1" >"$room/turn.journal"
+        call "$program" check "$data/$file.abt" "$room/turn.journal"
+        came "$file by seed 5: the journal" 0 "run" ""
+    done
+}
+
+# Journals that are followed, and how journals end.
+try_schedules() {
+    local length seed
+    call "$program" run "$data/stuck.abt" --journal
+    grep '^[0-9]' "$room/out" >"$room/stuck.journal"
+    call "$program" run "$data/stuck.abt" --schedule "$room/stuck.journal" --why
+    came "the schedule of a stuck run" 1 "@$room/why.out" ""
+    call "$program" check "$data/stuck.abt" "$room/stuck.journal" --end
+    came "the end of a stuck run" 0 $'run\nstuck' ""
+    for seed in 1 2 8; do
+        call "$program" run "$room/abreast.abt" --seed "$seed" --journal
+        grep '^[0-9]' "$room/out" >"$room/abreast.journal"
+        grep -v '^[0-9]' "$room/out" >"$room/abreast.out"
+        call "$program" run "$room/abreast.abt" --schedule "$room/abreast.journal"
+        came "the schedule of seed $seed" 0 "@$room/abreast.out" ""
+        call "$program" run - --schedule "$room/abreast.journal" <"$room/abreast.abt"
+        came "the schedule of seed $seed, the workload from standard input" 0 "@$room/abreast.out" ""
+        call "$program" check "$room/abreast.abt" "$room/abreast.journal" --end
+        came "the end of seed $seed" 0 $'run\nfinished' ""
+    done
+    # Of seed 8 unit 0 ends at the last event but one. Before that the run could go on.
+    for length in 0 3 6 8; do
+        head -n "$length" "$room/abreast.journal" >"$room/part.journal"
+        call "$program" run "$room/abreast.abt" --schedule "$room/part.journal"
+        came "the first $length events" 8 open ""
+        call "$program" check "$room/abreast.abt" "$room/part.journal" --end
+        came "the end of the first $length events" 1 $'run\nopen' ""
+    done
+    call "$program" run "$room/abreast.abt" --schedule "$room/part.journal" --why
+    came "where units are after the first events" 8 $'open\nunit 0 on stream 0' ""
+    head -n 9 "$room/abreast.journal" >"$room/part.journal"
+    call "$program" check "$room/abreast.abt" "$room/part.journal" --end
+    came "the end of all events but the last" 0 $'run\nfinished' ""
+    sed 3d "$room/abreast.journal" >"$room/part.journal"
+    call "$program" run "$room/abreast.abt" --schedule "$room/part.journal"
+    came "a schedule without its third event" 3 "bad 3" ""
+    call "$program" check "$room/abreast.abt" "$room/part.journal" --end
+    came "the end of no run" 1 "bad 3" ""
+    echo walk >"$room/part.journal"
+    call "$program" run "$room/abreast.abt" --schedule "$room/part.journal"
+    came "a schedule that is no journal" 3 "" "abtrun: line 1: journal"
+    call "$program" run "$room/abreast.abt" --schedule "$room/no.journal"
+    came "a schedule that is not there" 5 "" "$cannot_read"
+    call "$program" run "$room/no.abt" --schedule "$room/part.journal"
+    came "a workload that is not there" 5 "" "$cannot_read"
 }
 
 # refused FAULT LINE: the text on standard input is refused so.
@@ -598,8 +713,11 @@ try_most_steps
 try_threads
 try_neighbour
 try_full
+try_many_objects
 try_bad_words
 try_words
+try_seeds
+try_schedules
 try_faults
 try_lengths
 try_varied

@@ -4,6 +4,7 @@ picture=$root/crates/abtview/stdout
 words_are_bad='abtview: bad command line'
 cannot_read='abtview: cannot read'
 cannot_write='abtview: cannot write'
+too_large="<svg xmlns='http://www.w3.org/2000/svg' width='720' height='40'><text x='10' y='25'>a picture has at most 20,000 events and no stamp above 20,000: use abtview trace</text></svg>"
 
 # A journal of a refused step, and its trace.
 write_refused() {
@@ -12,9 +13,10 @@ write_refused() {
 {"traceEvents":[
 {"ph":"M","pid":0,"name":"process_name","args":{"name":"abtrun"}},
 {"ph":"M","pid":0,"tid":0,"name":"thread_name","args":{"name":"stream 0"}},
-{"ph":"X","pid":0,"tid":0,"ts":1.0,"dur":1.8,"name":"unit 7"},
-{"ph":"X","pid":0,"tid":0,"ts":1.1,"dur":0.6,"name":"take"},
-{"ph":"X","pid":0,"tid":0,"ts":2.1,"dur":0.6,"name":"refused"},
+{"ph":"M","pid":0,"tid":0,"name":"thread_sort_index","args":{"sort_index":0}},
+{"ph":"X","pid":0,"tid":0,"ts":1.0,"dur":1.8,"cat":"stretch","name":"unit 7"},
+{"ph":"X","pid":0,"tid":0,"ts":1.1,"dur":0.6,"cat":"event","name":"take"},
+{"ph":"X","pid":0,"tid":0,"ts":2.1,"dur":0.6,"cat":"event","name":"refused"},
 {"ph":"i","pid":0,"tid":0,"ts":2.4,"s":"t","name":"refused, unit 7"}
 ]}
 JSON
@@ -25,9 +27,10 @@ write_long() {
     awk -v count="$1" -v journal="$room/long.journal" -v trace="$room/long.json" 'BEGIN {
         printf "{\"traceEvents\":[\n{\"ph\":\"M\",\"pid\":0,\"name\":\"process_name\",\"args\":{\"name\":\"abtrun\"}}" >trace
         printf ",\n{\"ph\":\"M\",\"pid\":0,\"tid\":0,\"name\":\"thread_name\",\"args\":{\"name\":\"stream 0\"}}" >trace
+        printf ",\n{\"ph\":\"M\",\"pid\":0,\"tid\":0,\"name\":\"thread_sort_index\",\"args\":{\"sort_index\":0}}" >trace
         for (i = 0; i < count; i++) {
             printf "%.0f 0 miss %d\n", 4294967290 + i, i >journal
-            printf ",\n{\"ph\":\"X\",\"pid\":0,\"tid\":0,\"ts\":%.0f.1,\"dur\":0.6,\"name\":\"miss\"}", 4294967290 + i >trace
+            printf ",\n{\"ph\":\"X\",\"pid\":0,\"tid\":0,\"ts\":%.0f.1,\"dur\":0.6,\"cat\":\"event\",\"name\":\"miss\"}", 4294967290 + i >trace
         }
         printf "\n]}\n" >trace
     }'
@@ -51,13 +54,22 @@ try_views() {
     slowly "$program" trace "$room/long.journal"
     came "a slow reader of a long trace" 0 "@$room/long.json" ""
     call "$program" svg "$room/long.journal"
-    holds "a journal that is too long to be drawn names trace" grep -q 'use abtview trace</text></svg>$' "$room/out"
+    came "a journal that is too long to be drawn" 8 "$too_large" ""
     misses 20000 >"$room/text"
     call "$program" svg "$room/text"
-    holds "the longest journal is drawn" [ "$status" = 0 -a "$(wc -l <"$room/out")" -gt 1000 ]
+    holds "the longest journal is drawn, in eleven bands" [ "$status $(grep -c "^<svg y='" "$room/out")" = "0 11" ]
+    holds "it has each mark once, and its kinds" [ "$(grep -c "href='#miss'" "$room/out")" = 20001 ]
+    holds "it is at most 20,000 pixels wide" grep -q "^<svg xmlns='http://www.w3.org/2000/svg' width='19000' " "$room/out"
     misses 20001 >"$room/text"
     call "$program" svg "$room/text"
-    holds "one event more is not drawn" [ "$status $(wc -l <"$room/out")" = "0 1" ]
+    came "one event more is not drawn" 8 "$too_large" ""
+    printf '%s\n' '1 0 step 37 0 ok' '2 0 step 37 1 ok' '9 0 end 37 done' >"$room/text"
+    call "$program" svg "$room/text"
+    holds "a bar is hatched where its stamps jump" [ "$(grep -o "<rect class='jump'[^>]*>" "$room/out")" = "<rect class='jump' x='19' width='62' height='20'/>" ]
+    printf '%s\n' '1 0 step 37 0 ok' '2 0 put 5 0' '3 0 look 37' >"$room/text"
+    call "$program" svg "$room/text"
+    holds "where the stream puts another unit there is no jump" [ "$(grep -c "class='jump'" "$room/out")" = 0 ]
+    holds "a unit has the colour of its last digit, and the stripes of the one before" grep -q "^<g class='u7' .*<rect class='t3' " "$room/out"
     call "$program" trace - </dev/null
     came "the trace of no event" 0 "$(printf '%s\n' '{"traceEvents":[' \
         '{"ph":"M","pid":0,"name":"process_name","args":{"name":"abtrun"}}' ']}')" ""
@@ -73,15 +85,16 @@ write_named() {
 {"traceEvents":[
 {"ph":"M","pid":0,"name":"process_name","args":{"name":"abtrun"}},
 {"ph":"M","pid":0,"tid":0,"name":"thread_name","args":{"name":"stream 0"}},
-{"ph":"X","pid":0,"tid":0,"ts":1.0,"dur":4.8,"name":"unit 0"},
-{"ph":"X","pid":0,"tid":0,"ts":6.0,"dur":0.8,"name":"unit 1"},
-{"ph":"X","pid":0,"tid":0,"ts":1.1,"dur":0.6,"name":"step","args":{"operation":"say <&>\"\\"}},
-{"ph":"X","pid":0,"tid":0,"ts":2.1,"dur":0.6,"name":"step","args":{"operation":"say 'ß"}},
+{"ph":"M","pid":0,"tid":0,"name":"thread_sort_index","args":{"sort_index":0}},
+{"ph":"X","pid":0,"tid":0,"ts":1.0,"dur":4.8,"cat":"stretch","name":"unit 0"},
+{"ph":"X","pid":0,"tid":0,"ts":6.0,"dur":0.8,"cat":"stretch","name":"unit 1"},
+{"ph":"X","pid":0,"tid":0,"ts":1.1,"dur":0.6,"cat":"event","name":"step","args":{"operation":"say <&>\"\\"}},
+{"ph":"X","pid":0,"tid":0,"ts":2.1,"dur":0.6,"cat":"event","name":"step","args":{"operation":"say 'ß"}},
 JSON
-    printf '%s\n' '{"ph":"X","pid":0,"tid":0,"ts":3.1,"dur":0.6,"name":"step","args":{"operation":"say '$'\xef\xbf\xbf''"}},' \
-        '{"ph":"X","pid":0,"tid":0,"ts":4.1,"dur":0.6,"name":"step","args":{"operation":"yield"}},' \
-        '{"ph":"X","pid":0,"tid":0,"ts":5.1,"dur":0.6,"name":"step"},' \
-        '{"ph":"X","pid":0,"tid":0,"ts":6.1,"dur":0.6,"name":"call"},' \
+    printf '%s\n' '{"ph":"X","pid":0,"tid":0,"ts":3.1,"dur":0.6,"cat":"event","name":"step","args":{"operation":"say '$'\xef\xbf\xbf''"}},' \
+        '{"ph":"X","pid":0,"tid":0,"ts":4.1,"dur":0.6,"cat":"event","name":"step","args":{"operation":"yield"}},' \
+        '{"ph":"X","pid":0,"tid":0,"ts":5.1,"dur":0.6,"cat":"event","name":"step"},' \
+        '{"ph":"X","pid":0,"tid":0,"ts":6.1,"dur":0.6,"cat":"event","name":"call"},' \
         '{"ph":"i","pid":0,"tid":0,"ts":6.4,"s":"t","name":"call, unit 1, returned 7"}' ']}' >>"$room/named.json"
     printf '%s\n' '1 0 step 0 0 ok  say &lt;&amp;&gt;&quot;\' '2 0 step 0 1 ok  say &#39;ß' $'3 0 step 0 2 ok  say \xef\xbf\xbd' \
         '4 0 step 0 3 ok  yield' '5 0 step 0 4 ok' >"$room/named.lines"
@@ -109,7 +122,7 @@ try_named() {
         holds "the trace with operations is one" is_trace "$room/out"
     }
     call "$program" svg "$room/long.journal" "$hi"
-    holds "a journal that is too long is not drawn with operations" grep -q 'use abtview trace</text></svg>$' "$room/out"
+    came "a journal that is too long is not drawn with operations" 8 "$too_large" ""
     for view in svg trace; do
         call "$program" "$view" "$journal" "$journal"
         came "$view: a journal is no workload" 3 "" "abtview: line 1: version"
@@ -204,7 +217,7 @@ try_runs() {
 # Words that ask for no view, each with the words parted by blanks.
 try_bad_words() {
     local words
-    for words in '' svg trace 'svg f f f' 'draw f' 'draw f f' 'Svg f' 'svgx f' 'f svg' '--svg f' '-- svg f' '--help' '-h' '--version' help; do
+    for words in '' svg trace 'svg f f f' 'draw f' 'draw f f' 'Svg f' 'svgx f' 'f svg' '--svg f' '-- svg f' '--help f' '-h' '--version f' 'f --help' help; do
         call "$program" $words
         came "the words '$words'" 2 "" "$words_are_bad"
     done
@@ -216,6 +229,15 @@ try_bad_words() {
     came "a journal of the name '--'" 5 "" "$cannot_read"
     call "$program" svg $'f\xff'
     came "a word that is not UTF-8" 2 "" "$words_are_bad"
+}
+
+# What the program says of itself.
+try_about() {
+    call "$program" --help
+    holds "--help names both views" [ "$status $(grep -c '^  abtview \(svg\|trace\) JOURNAL \[WORKLOAD\] ' "$room/out") $(wc -c <"$room/err")" = "0 2 0" ]
+    holds "--help names each status" [ "$(grep -o '[0-9] [a-z]' "$room/out" | cut -c1 | tr -d '\n')" = 0235678 ]
+    call "$program" --version
+    came "--version" 0 "abtview 1" ""
 }
 
 # refused LINE: the journal on standard input is refused at this line, by both views.
@@ -293,6 +315,7 @@ try_views
 try_named
 try_runs
 try_bad_words
+try_about
 try_faults
 try_few_bytes
 try_names

@@ -48,10 +48,47 @@ try_runs() {
         call "$program" "$root/crates/abt_examples/data/$name.abt" "$room/none.lives"
         came "a stored order that is $name" 0 "@$room/ordered.out" ""
     done
+    { printf 'life 1 0 1\n\n'; printf '  # both run\n\t\n#' ; } >"$room/skipped.lives"
+    call "$program" "$lives/made.abt" "$room/skipped.lives"
+    came "lives among skipped lines" 0 "@$made" ""
+    printf '%s\n' '# streams of this' '' "$(printf ' \t# workload')" 'life 1 0 1' '#' >"$room/skipped.lives"
+    call "$program" "$lives/made.abt" "$room/skipped.lives"
+    came "lives behind skipped lines" 0 "@$made" ""
     call "$program" - "$lives/made.lives" <"$lives/made.abt"
     came "the workload on standard input" 0 "@$made" ""
     call "$program" "$lives/made.abt" - <"$lives/made.lives"
     came "the lives on standard input" 0 "@$made" ""
+}
+
+# The journal, the number of steps, and what the program says of itself.
+try_options() {
+    call "$program" "$lives/made.abt" --journal "$lives/made.lives"
+    holds "the journal and then the output" [ "$status $(head -n -6 "$room/out" | grep -c '^[0-9]')" = "0 $(($(wc -l <"$room/out") - 6))" ]
+    tail -n 6 "$room/out" | diff - "$made" >"$room/diff"
+    holds "the output behind the journal" [ ! -s "$room/diff" ]
+    call "$program" "$lives/made.abt" "$lives/made.lives" --steps 3
+    came "as many steps as there are" 0 "@$made" ""
+    call "$program" --steps=100000 "$lives/made.abt" "$lives/made.lives"
+    came "as many steps as the first format allows" 0 "@$made" ""
+    call "$program" "$lives/made.abt" --steps 100001 "$lives/made.lives"
+    came "more steps than the first format allows" 2 "" "$words_are_bad"
+    sed 's/^abt 1$/abt 3/' "$lives/made.abt" >"$room/third.abt"
+    call "$program" "$room/third.abt" --steps 16777216 "$lives/made.lives"
+    came "as many steps as the third format allows" 0 "@$made" ""
+    call "$program" "$room/reviving.abt" "$room/none.lives" --steps 8
+    came "eight steps" 4 "$(printf '%s\n' 'unit 0 stream 0: !unit-state' 'unit 1 done:' 'tally units 2 unborn 0 pool 0 stream 1 blocked 0 done 1 asked 0 access 0 steps 8' 'budget 0' 'wave 0 from 0 streams 0')" ""
+    sed 's/^abt 1$/abt 3/' "$room/reviving.abt" >"$room/third.abt"
+    call "$program" "$room/third.abt" "$room/none.lives"
+    holds "10,000 steps by the third format too" [ "$status $(grep -c 'steps 10000$' "$room/out")" = "4 1" ]
+    call "$program" --help
+    came "its words" 0 "$(printf '%s\n' 'abtwaves WORKLOAD LIVES [--steps V] [--journal]' 'abtwaves --help' 'abtwaves --version')" ""
+    call "$program" --version
+    came "its version" 0 "abtwaves 1" ""
+    cp "$lives/made.abt" "$room/--journal"
+    cd "$room" || return
+    call "$program" -- --journal "$lives/made.lives"
+    came "a name that is spelled as an option" 0 "@$made" ""
+    cd "$root" || return
 }
 
 # Three streams of which each lives from wave to wave, and whose units hand one another on.
@@ -77,7 +114,9 @@ try_threads() {
 
 try_bad_words() {
     local words
-    for words in '' one 'one two three' '- -' '--help' '-h one' '--version' 'one --journal' '--steps 5 one'; do
+    for words in '' one 'one two three' '- -' '--help one' '--help --help' '-h one' '--version --help' 'one --journal' '--steps 5 one' \
+        'one two --steps' 'one two --steps 0' 'one two --steps +5' 'one two --steps 16777217' 'one two --steps 5 --steps 5' \
+        'one two --journal --journal' 'one two --journal=x' 'one two --why' '--journal two --steps one' '-- one two --journal'; do
         call "$program" $words
         came "the words '$words'" 2 "" "$words_are_bad"
     done
@@ -105,14 +144,22 @@ try_bad_lives() {
 1|life 01 0 1\n
 1|life 1 0\n
 1|life 1 0 1 \n
-1|\n
+1| life 1 0 1\n
+1|\r\n
+1|# a comment that is not UTF-8 \xff\n
 1|live 1 0 1\n
 2|life 1 0 1\nlife 1 0 1\n
-2|life 1 0 1\n\n
+3|\n\nlife 1 0 0\n
+4|# first\nlife 1 0 1\n \t\nlife 1 0 1\n
+2|#\nlife 1 0 1
+2|life 1 0 1\n;\n
 ROWS
-    head -c 65536 /dev/zero | tr '\0' '#' >"$room/long.lives"
+    head -c 65536 /dev/zero | tr '\0' 'l' >"$room/long.lives"
     call "$program" "$lives/made.abt" "$room/long.lives"
-    came "lives of 65,536 bytes" 3 "" "abtwaves: line 1: life"
+    came "lives of 65,536 bytes that are no lives" 3 "" "abtwaves: line 1: life"
+    { cat "$lives/made.lives" && head -c 65525 /dev/zero | tr '\0' '#'; } >"$room/long.lives"
+    call "$program" "$lives/made.abt" "$room/long.lives"
+    came "lives of 65,536 bytes" 0 "@$made" ""
     printf '#' >>"$room/long.lives"
     call "$program" "$lives/made.abt" "$room/long.lives"
     came "lives of 65,537 bytes" 3 "" "abtwaves: line 0: life"
@@ -198,6 +245,7 @@ fi
 mkfifo "$room/fifo"
 write_long
 try_runs
+try_options
 try_threads
 try_bad_words
 try_bad_lives
