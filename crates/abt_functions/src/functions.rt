@@ -35,6 +35,10 @@ impl Work for TextFunctions {
 
     fn before_step(&self, _stream: StreamNo, _unit: UnitNo, _at: u32) {}
 
+    fn watches(&self) -> bool {
+        false
+    }
+
     fn call(&self, function: u32, _unit: UnitNo, acc: u64, keys: &[u64]) -> u64 {
         text_function(function, acc, keys)
     }

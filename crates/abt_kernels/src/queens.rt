@@ -39,6 +39,10 @@ impl Work for Board {
 
     fn before_step(&self, _stream: StreamNo, _unit: UnitNo, _at: u32) {}
 
+    fn watches(&self) -> bool {
+        false
+    }
+
     fn call(&self, function: u32, unit: UnitNo, _acc: u64, keys: &[u64]) -> u64 {
         self.value(function, unit, keys)
     }

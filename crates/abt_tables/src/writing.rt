@@ -50,6 +50,10 @@ impl<'a, T: Table, M: MakesRows<T>> Work for WritesRows<'a, T, M> {
 
     fn before_step(&self, _stream: StreamNo, _unit: UnitNo, _at: u32) {}
 
+    fn watches(&self) -> bool {
+        false
+    }
+
     fn call(&self, _function: u32, unit: UnitNo, _acc: u64, _keys: &[u64]) -> u64 {
         self.write(unit.0);
         0

@@ -6,7 +6,8 @@ ghost use Rattle.abt_machine.specs.Stored.{IsReturned};
 use abt_machine::{StreamNo, UnitNo};
 
 /// The functions that units call by their numbers, and what is called before each step. Threads share it by reference, and no
-/// lock is held while its methods run. A method that does not return holds up its stream for ever.
+/// lock is held while its methods run, but for a `before_step` of which `watches` says that it does nothing. A method that does
+/// not return holds up its stream for ever.
 pub trait Work {
     ghost use Rattle.std.specs.Prelude.{ℕ, List, Option};
 
@@ -18,6 +19,11 @@ pub trait Work {
 
     /// What is called before the unit's step at this position; a call is a step.
     fn before_step(&self, stream: StreamNo, unit: UnitNo, at: u32);
+
+    /// Whether `before_step` does anything. Where it does nothing, a stream may keep locks from one step to the next.
+    fn watches(&self) -> bool {
+        true
+    }
 
     /// What the function of this number returns for a unit with this number, accumulator and keys, which becomes the unit's
     /// accumulator. It cannot fail, and it does not learn which stream calls, so that its result does not depend on the schedule.
@@ -43,6 +49,10 @@ impl Work for AnyWork {
     ghost returns = { λ _ _ _ _ _. None };
 
     fn before_step(&self, _stream: StreamNo, _unit: UnitNo, _at: u32) {}
+
+    fn watches(&self) -> bool {
+        false
+    }
 
     fn call(&self, _function: u32, _unit: UnitNo, acc: u64, _keys: &[u64]) -> u64 {
         acc

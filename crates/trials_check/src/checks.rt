@@ -225,6 +225,10 @@ impl Work for Sums {
 
     fn before_step(&self, _stream: StreamNo, _unit: UnitNo, _at: u32) {}
 
+    fn watches(&self) -> bool {
+        false
+    }
+
     fn call(&self, function: u32, unit: UnitNo, acc: u64, keys: &[u64]) -> u64 {
         match function {
             0 => sum(unit, acc, keys),
