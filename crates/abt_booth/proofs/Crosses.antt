@@ -1,4 +1,4 @@
--- If the object may go to another thread, so may a seat and a booth, and a booth may be shared.
+-- If the object may go to another thread, so may a seat, a holder, what it holds and a booth, and a booth may be shared.
 use denote.RattleType.{RattleType}
 use denote.Struct.Declared.{shape}
 use denote.Param.Send.{IsSend, IsSync, recorded_sync, sendable, struct_sync}
@@ -13,9 +13,18 @@ use Rattle.abt_booth.specs.contracts.rule.Lot as Lot
 use Rattle.abt_booth.specs.contracts.booth.Seat as Seat
 use Rattle.abt_booth.specs.contracts.booth.Gathered as Gathered
 use Rattle.abt_booth.specs.contracts.booth.Booth as Booth
+use Rattle.abt_booth.specs.contracts.holder.Holder as Holder
+use Rattle.abt_booth.specs.contracts.holder.Held as Held
 
 Lot-send : (O A R : RattleType) → IsSend O → IsSend (Lot.the_row O A R)
 Lot-send O A R s = search sendable depth 20
+
+pub Held-send : (O A R : RattleType) → IsSend O → IsSend (Held.the_row O A R)
+Held-send O A R s = search sendable depth 20
+
+-- the same, as a field of another struct
+pub Held-field-send : (O A R : RattleType) → IsSend O → IsSend (Held.the_field O A R).row
+Held-field-send O A R s = search sendable depth 20
 
 module _ (O A R : RattleType) (g : Ghosts O.Denot A.Denot R.Denot) where
   pub Seat-send : IsSend O → IsSend (Seat.the_row O A R g)
@@ -27,9 +36,15 @@ module _ (O A R : RattleType) (g : Ghosts O.Denot A.Denot R.Denot) where
   pub Booth-send : IsSend O → IsSend (Booth.the_row O A R g)
   Booth-send s = search (sendable, shared.the_send, lease.the_send, word.the_send, heap.the_send, frees, Lot-send) depth 40
 
+  pub Holder-send : IsSend O → IsSend (Holder.the_row O A R g)
+  Holder-send s = search (sendable, raw.the_send, Lot-send) depth 20
+
   -- the same, as a field of another struct
   pub Seat-field-send : IsSend O → IsSend (Seat.the_field O A R g).row
   Seat-field-send s = search (sendable, raw.the_send, Lot-send) depth 20
+
+  pub Holder-field-send : IsSend O → IsSend (Holder.the_field O A R g).row
+  Holder-field-send s = search (sendable, raw.the_send, Lot-send) depth 20
 
   pub Gathered-field-send : IsSend O → IsSend (Gathered.the_field O A R g).row
   Gathered-field-send s = search (sendable, raw.the_send, Lot-send) depth 20
@@ -46,4 +61,4 @@ module _ (O A R : RattleType) (g : Ghosts O.Denot A.Denot R.Denot) where
       (struct_sync (shape (Booth.the_type O A R g)) (search (sendable, shared.the_sync, lease.the_sync, heap.the_sync, heap.the_send, frees, Lot-send) depth 20, (word.the_sync, tt)))
 
 -- all of these, for `search`
-pub ruleset booth_crosses = (Seat-send, Gathered-send, Booth-send, Booth-sync, Seat-field-send, Gathered-field-send, Booth-field-send, Booth-field-sync)
+pub ruleset booth_crosses = (Seat-send, Gathered-send, Holder-send, Held-send, Booth-send, Booth-sync, Seat-field-send, Gathered-field-send, Holder-field-send, Held-field-send, Booth-field-send, Booth-field-sync)

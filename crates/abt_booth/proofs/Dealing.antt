@@ -38,7 +38,7 @@ module _ {O A R : Type 0} where
 
 module _ {O A R : Type 0} (does : O → A → R → O → Type 0) (o : O) (n : ℕ) where
   -- the rule holds of a new table
-  pub opens : (lot : Lot O A R) → lot.object ≡ o → lot.clock ≡ 0 → Kept does o n (opening (replicate 31 0) (Some lot ∷ []) (keeper o n))
+  pub opens : (lot : Lot O A R) → lot.object ≡ o → lot.clock ≡ 0 → Kept does o n (opening (replicate 7 0) (Some lot ∷ []) (keeper o n))
   opens lot is zero_is =
       let at_keeper : (j : ℕ) (v : View O A R) → get_elem? (keeper o n ∷ []) j ≡ some v → keeper o n ≡ v = λ j v e. (alone (keeper o n) v j e).1 in record {
         log = [];

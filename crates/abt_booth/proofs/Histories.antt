@@ -1,8 +1,12 @@
 -- Laws of histories.
-use Rattle.std.proofs.Common.{◌≡◌, ℕ, ◌+◌, ◌<◌, ◌≤◌, List, [], ◌∷◌, ◌++◌, length, cond, eqb, ne_eqb, refl, sym, ap, ◌∙◌, subst, arith}
-use Rattle.std.proofs.lemmas.List.{append_assoc}
+use Rattle.std.proofs.Common.{◌≡◌, ℕ, ◌+◌, ◌<◌, ◌≤◌, List, [], ◌∷◌, ◌++◌, length, cond, ne_eqb, refl, sym, ap, ◌∙◌, subst, arith}
+use Rattle.std.proofs.lemmas.List.{append_assoc, append-nil}
+use Rattle.std.proofs.lemmas.List.Elements.{filter-append}
+use Rattle.std.specs.Prelude.{◌==◌}
 use Rattle.abt_interleave.specs.declared.entries.Entry.{Entry}
 use Rattle.abt_interleave.specs.Histories.{calls_of, last_from, RisesAbove, Extends, Leads, entry_stamps}
+use Rattle.abt_booth.specs.declared.made.Call.{Call}
+use Rattle.abt_booth.specs.Rule.{entry_of, entries_of}
 
 module _ {A R : Type 0} where
   -- one more call, at a greater stamp
@@ -20,14 +24,18 @@ module _ {A R : Type 0} where
   length-below s [] r = omega arith
   length-below s (x ∷ xs) r = let l = length-below x.stamp xs r.1 in let m = r.0 in omega arith
 
-  -- a call of another seat is no call of this one
-  pub calls-more : (k : ℕ) (h : List (Entry A R)) (e : Entry A R) → ¬ (e.caller ≡ k) → calls_of k (h ++ e ∷ []) ≡ calls_of k h
-  calls-more k [] e ne = ap (λ b. cond b (e ∷ []) []) (ne_eqb e.caller k ne)
-  calls-more k (x ∷ xs) e ne = ap (λ (r : List (Entry A R)). cond (eqb x.caller k) (x ∷ r) r) (calls-more k xs e ne)
+  -- calls of another seat are no calls of this one
+  calls-others : (k n : ℕ) (calls : List (Call A R)) → ¬ (n ≡ k) → calls_of k (entries_of n calls) ≡ []
+  calls-others k n [] ne = refl
+  calls-others k n (x ∷ xs) ne = ap (λ b. cond b (entry_of n x ∷ calls_of k (entries_of n xs)) (calls_of k (entries_of n xs))) (ne_eqb n k ne) ∙ calls-others k n xs ne
 
-  -- a call of another seat extends what this one had seen
-  pub extends-more : (k : ℕ) (l h : List (Entry A R)) (e : Entry A R) → ¬ (e.caller ≡ k) → Extends k l h → Extends k l (h ++ e ∷ [])
-  extends-more k l h e ne x = ((x.0.0 ++ e ∷ [], sym (append_assoc l x.0.0 (e ∷ [])) ∙ ap (λ (y : List (Entry A R)). y ++ e ∷ []) x.0.1), calls-more k h e ne ∙ x.1)
+  -- calls of another seat extend what this one had seen
+  pub extends-others : (k n : ℕ) (l h : List (Entry A R)) (calls : List (Call A R)) → ¬ (n ≡ k) → Extends k l h → Extends k l (h ++ entries_of n calls)
+  extends-others k n l h calls ne x =
+      let es = entries_of n calls in (
+        (x.0.0 ++ es, sym (append_assoc l x.0.0 es) ∙ ap (λ (y : List (Entry A R)). y ++ es) x.0.1),
+        filter-append (λ (e : Entry A R). e.caller == k) h es ∙ (ap (λ (y : List (Entry A R)). calls_of k h ++ y) (calls-others k n calls ne) ∙ (append-nil (calls_of k h) ∙ x.1)),
+      )
 
 module _ {O A R : Type 0} (does : O → A → R → O → Type 0) where
   -- one more act

@@ -1,5 +1,5 @@
 -- Each step on a booth's table keeps its rule.
-use Rattle.std.proofs.Common.{◌≡◌, ◌≢◌, ℕ, zero, suc, ◌+◌, ◌*◌, ◌%◌, ◌<◌, ◌≤◌, ◌^◌, inl, inr, ⊎_elim, Bool, true, false, List, [], ◌∷◌, ◌++◌, length, eqb, eq-eqb, ne_eqb, get_or, set, refl, sym, ap, ◌∙◌, subst, arith, le_refl, length-append, true≢false, Option, Some}
+use Rattle.std.proofs.Common.{◌≡◌, ◌≢◌, ℕ, zero, suc, ◌+◌, ◌*◌, ◌%◌, ◌<◌, ◌≤◌, ◌^◌, inl, inr, ⊎_elim, Bool, true, false, List, [], ◌∷◌, length, eqb, eq-eqb, ne_eqb, get_or, set, refl, sym, ap, ◌∙◌, subst, arith, le_refl, true≢false, Some}
 use mathlib.Core.Logic.{dite}
 use mathlib.Core.Option.{none, some, some-ne-none}
 use native.Mathlib.Decide.{ℕ_discrete}
@@ -7,20 +7,20 @@ use prog.Atomic.{either}
 use lib.ListN.{get_elem?}
 use lib.Seq.{set-get_or}
 use mathlib.Core.Option.{Option as Maybe}
-use Rattle.atomic_table.specs.Table.{Act, step, rest, keeps, takes, gives, stepped, carried_after, Valid, Allows}
+use Rattle.atomic_table.specs.Table.{Act, step, keeps, takes, gives, stepped, carried_after, Valid, Allows}
 use Rattle.atomic_table.proofs.Lists.{at_set, set_again}
 use Rattle.std.proofs.lemmas.Bool.{false_from_ne_true}
-use Rattle.std.specs.declared.snapshot.Snapshot.{Snapshot}
 use Rattle.abt_interleave.specs.declared.entries.Entry.{Entry}
-use Rattle.abt_interleave.specs.Histories.{last_stamp, Extends, RisesAbove, Leads, entry_stamps}
+use Rattle.abt_interleave.specs.Histories.{Extends}
 use Rattle.abt_booth.specs.declared.rule.View.{View}
-use Rattle.abt_booth.specs.declared.rule.Lot.{Lot}
+use Rattle.abt_booth.specs.declared.holder.Held.{Held}
 use Rattle.std.specs.List.{All}
-use Rattle.std.proofs.lemmas.List.Elements.{All-push}
-use Rattle.abt_booth.specs.Rule.{counting, KeptLot, TableState, SeatState, Has, Fits, IsFree, IsHeld, Kept, entry_at, holding, resting, took, released, yielded}
+use Rattle.std.proofs.lemmas.List.Elements.{All-append, All-map}
+use Rattle.abt_booth.specs.Rule.{counting, KeptLot, TableState, SeatState, Has, Fits, IsFree, IsHeld, Kept, entry_of, entries_of, holding, resting, took, released}
+use Rattle.abt_booth.specs.Holders.{sight_of, IsTaken}
 use Rattle.abt_booth.proofs.Places.{index-at}
 use Rattle.abt_interleave.proofs.Prefixes.{extends-self}
-use Rattle.abt_booth.proofs.Histories.{rises-more, last-more, extends-more, leads-more}
+use Rattle.abt_booth.proofs.Histories.{extends-others}
 
 module _ {O A R : Type 0} where
   abbrev pub At : List (View O A R) → ℕ → View O A R → Type 0
@@ -133,23 +133,21 @@ module _ {O A R : Type 0} (does : O → A → R → O → Type 0) (o : O) (n : �
       (λ (c : (j ≡ id) × (w ≡ u)). ap (λ (y : View O A R). y.holds) (sym c.1) ∙ hw)
       (λ (c : (j ≢ id) × (get_elem? vs j ≡ some u)). false_from_ne_true u.holds (λ h. c.0 (only j u c.1 h ∙ sym (only id v at hv)))) (at_set vs id j w u e)
 
-  releases-held : (slots : ℕ) (s : TableState O A R) (r : Rule s) (id : ℕ) (v : View O A R) (m ob : O) (clock : ℕ) (x : Snapshot A × Snapshot R) (call : Snapshot (Option (Snapshot A × Snapshot R))) (new : ℕ)
-      → v.holds ≡ true → v.number < v.next → v.taken ≡ [] → Leads does o v.seen m → does m x.0.value x.1.value ob → last_stamp (entry_stamps v.seen) < clock → clock ≤ 2 ^ 62 → new ≡ 2 * length v.seen + 2 → get_elem? s.views id ≡ some v
-      → IsHeld r.log s
-      → let lot : Lot O A R = record { object = ob; clock = clock; last = call } in Rule (stepped s counting new id ((0, Some lot) ∷ []) (resting v (v.seen ++ entry_at v.number clock (Some x))) gives)
-  releases-held slots s r id v m ob clock x call new hv lt tk leads done later cap is at t =
-      let lot : Lot O A R = record { object = ob; clock = clock; last = call } in
-      let e : Entry A R = record { stamp = clock; caller = v.number; act = x.0.value; answer = x.1.value } in
-      let more : List (Entry A R) = v.seen ++ e ∷ [] in
+  releases-held : (s : TableState O A R) (r : Rule s) (id : ℕ) (v : View O A R) (held : Held O A R)
+      → v.holds ≡ true → v.number < v.next → v.taken ≡ [] → IsTaken does o (sight_of v held.lot) held → get_elem? s.views id ≡ some v
+      → IsHeld r.log s → Rule (stepped s counting held.free id ((0, Some held.lot) ∷ []) (resting v (sight_of v held.lot)) gives)
+  releases-held s r id v held hv lt tk taken at t =
+      let calls = held.lot.made.value in
+      let more : List (Entry A R) = sight_of v held.lot in
       let only = t.7 in
       let sl : v.seen ≡ r.log = (only id v at hv).1 in
       let old : (j : ℕ) (u : View O A R) → get_elem? s.views j ≡ some u → Fits o n v.seen u = λ j u a. subst (λ (l : List (Entry A R)). Fits o n l u) (sym sl) (r.fits j u a) in
-      let w = resting v more in
-      let size : new ≡ 2 * length more = omega (arith, length-append v.seen (e ∷ [])) in record {
+      let below : v.number < n = (own v.seen v lt (old id v at)).1 in
+      let w = resting v more in record {
         log = more;
-        rises = rises-more 0 v.seen e (subst (λ (l : List (Entry A R)). RisesAbove 0 (entry_stamps l)) (sym sl) r.rises) later;
-        capped = subst (λ (z : ℕ). z ≤ 2 ^ 62) (sym (last-more 0 v.seen e)) cap;
-        known = All-push (λ x. x.caller < n) v.seen e (subst (All (λ x. x.caller < n)) (sym sl) r.known) (own v.seen v lt (old id v at)).1;
+        rises = taken.rises;
+        capped = subst (λ (z : ℕ). z ≤ 2 ^ 62) taken.clock taken.capped;
+        known = All-append (λ e. e.caller < n) v.seen (entries_of v.number calls) (subst (All (λ e. e.caller < n)) (sym sl) r.known) (All-map (λ e. e.caller < n) (entry_of v.number) calls (λ i d lt. below));
         fits = each-after (λ _ u. Fits o n v.seen u) (λ _ u. Fits o n more u) s.views id w old
             (λ k l h. ⊎_elim
             (λ (c : (v.number ≤ k) × (k < v.next) × (l ≡ more)). let g = old id v at k v.seen (inl (c.0, c.1, refl)) in (g.0, g.1, subst (λ (y : List (Entry A R)). Extends k y more) (sym c.2) (extends-self k more)))
@@ -157,62 +155,26 @@ module _ {O A R : Type 0} (does : O → A → R → O → Type 0) (o : O) (n : �
             (λ j u other a f k l h. let g = f k l h in (
               g.0,
               g.1,
-              extends-more k l v.seen e (λ same. other (r.unique j id u v k l v.seen a at h (let lo : v.number ≤ k = omega arith in let hi : k < v.next = omega arith in inl (lo, hi, refl)))) g.2,
+              extends-others k v.number l v.seen calls (λ same. other (r.unique j id u v k l v.seen a at h (let lo : v.number ≤ k = omega arith in let hi : k < v.next = omega arith in inl (lo, hi, refl)))) g.2,
             ));
         unique = unique-after s.views id v w at (narrows-seen v false more) r.unique;
         turn = inl (
-          lot,
-          put-there s.words counting (2 * length r.log + 1) new t.2 ∙ ap some size,
-          ap (λ (hs : List (Maybe (KeptLot O A R))). set hs 0 (some (Some lot))) t.3,
-          leads-more does o v.seen m e ob leads done,
-          sym (last-more 0 v.seen e),
+          held.lot,
+          put-there s.words counting (2 * length r.log + 1) held.free t.2 ∙ ap some taken.free,
+          ap (λ (hs : List (Maybe (KeptLot O A R))). set hs 0 (some (Some held.lot))) t.3,
+          taken.leads,
+          taken.clock,
           let-go s.views id t.0 v w at hv refl (λ j u a h. (only j u a h).0),
         );
       }
 
-  pub releases : (slots id : ℕ) (v : View O A R) (m ob : O) (clock : ℕ) (x : Snapshot A × Snapshot R) (call : Snapshot (Option (Snapshot A × Snapshot R))) (new : ℕ)
-      → call.value ≡ Some x → v.holds ≡ true → v.number < v.next → v.taken ≡ [] → Leads does o v.seen m → does m x.0.value x.1.value ob → last_stamp (entry_stamps v.seen) < clock → clock ≤ 2 ^ 62 → new ≡ 2 * length v.seen + 2
-      → let lot : Lot O A R = record { object = ob; clock = clock; last = call } in let me : SeatState O A R = (v, (0, Some lot) ∷ []) in Allows Rule slots id me counting (λ _. new) (λ _. released (step slots counting new 0 none) me new)
-  releases slots id v m ob clock x call new noted hv lt tk leads done later cap is s r sized at small =
-      let lot : Lot O A R = record { object = ob; clock = clock; last = call } in (
-        resting v (v.seen ++ entry_at v.number clock (Some x)),
-        gives,
-        tt,
-        ⊎_elim (λ (t : IsFree does o r.log s). absurd (true≢false (sym hv ∙ t.5 id v at))) (λ (t : IsHeld r.log s). releases-held slots s r id v m ob clock x call new hv lt tk leads done later cap is at t) r.turn,
-        ap (λ (c : Option (Snapshot A × Snapshot R)). (resting v (v.seen ++ entry_at v.number clock c), rest ((0, Some lot) ∷ []))) (sym noted),
-      )
-
-  yields-held : (slots : ℕ) (s : TableState O A R) (r : Rule s) (id : ℕ) (v : View O A R) (lot : Lot O A R) (new : ℕ)
-      → v.holds ≡ true → Leads does o v.seen lot.object → lot.clock ≡ last_stamp (entry_stamps v.seen) → new ≡ 2 * length v.seen → get_elem? s.views id ≡ some v
-      → IsHeld r.log s → Rule (stepped s counting new id ((0, Some lot) ∷ []) (resting v v.seen) gives)
-  yields-held slots s r id v lot new hv leads clock is at t =
-      let only = t.7 in
-      let sl : v.seen ≡ r.log = (only id v at hv).1 in
-      let w = resting v v.seen in record {
-        log = v.seen;
-        rises = subst (λ (l : List (Entry A R)). RisesAbove 0 (entry_stamps l)) (sym sl) r.rises;
-        capped = subst (λ (l : List (Entry A R)). last_stamp (entry_stamps l) ≤ 2 ^ 62) (sym sl) r.capped;
-        known = subst (All (λ e. e.caller < n)) (sym sl) r.known;
-        fits = subst (λ (l : List (Entry A R)). (j : ℕ) (u : View O A R) → get_elem? (set s.views id w) j ≡ some u → Fits o n l u) (sym sl)
-            (each-after (λ _ u. Fits o n r.log u) (λ _ u. Fits o n r.log u) s.views id w r.fits (r.fits id v at) (λ j u _ _ g. g));
-        unique = unique-after s.views id v w at (narrows-seen v false v.seen) r.unique;
-        turn = inl (
-          lot,
-          put-there s.words counting (2 * length r.log + 1) new t.2 ∙ ap some is,
-          ap (λ (hs : List (Maybe (KeptLot O A R))). set hs 0 (some (Some lot))) t.3,
-          leads,
-          clock,
-          let-go s.views id t.0 v w at hv refl (λ j u a h. (only j u a h).0),
-        );
-      }
-
-  pub yields : (slots id : ℕ) (v : View O A R) (lot : Lot O A R) (new : ℕ)
-      → v.holds ≡ true → Leads does o v.seen lot.object → lot.clock ≡ last_stamp (entry_stamps v.seen) → new ≡ 2 * length v.seen
-      → let me : SeatState O A R = (v, (0, Some lot) ∷ []) in Allows Rule slots id me counting (λ _. new) (λ _. yielded (step slots counting new 0 none) me new)
-  yields slots id v lot new hv leads clock is s r sized at small = (
-    resting v v.seen,
+  -- a view with the turn may give it back, with the object that its calls lead to
+  pub releases : (slots id : ℕ) (v : View O A R) (held : Held O A R) → v.holds ≡ true → v.number < v.next → v.taken ≡ [] → IsTaken does o (sight_of v held.lot) held
+      → let me : SeatState O A R = (v, (0, Some held.lot) ∷ []) in Allows Rule slots id me counting (λ _. held.free) (λ _. released (step slots counting held.free 0 none) me held.free)
+  releases slots id v held hv lt tk taken s r sized at small = (
+    resting v (sight_of v held.lot),
     gives,
     tt,
-    ⊎_elim (λ (t : IsFree does o r.log s). absurd (true≢false (sym hv ∙ t.5 id v at))) (λ (t : IsHeld r.log s). yields-held slots s r id v lot new hv leads clock is at t) r.turn,
+    ⊎_elim (λ (t : IsFree does o r.log s). absurd (true≢false (sym hv ∙ t.5 id v at))) (λ (t : IsHeld r.log s). releases-held s r id v held hv lt tk taken at t) r.turn,
     refl,
   )

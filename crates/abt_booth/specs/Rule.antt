@@ -1,13 +1,13 @@
 -- The rule of a booth's table, and what each step ensures.
-use Rattle.std.specs.Prelude.{◌≡◌, ℕ, suc, ◌+◌, ◌*◌, ◌<◌, ◌≤◌, ◌^◌, List, [], ◌∷◌, ◌++◌, length, true, false, ◌⊎◌, Some, None, Option}
+use Rattle.std.specs.Prelude.{◌≡◌, ℕ, suc, ◌+◌, ◌*◌, ◌<◌, ◌≤◌, ◌^◌, List, [], ◌∷◌, ◌++◌, map, length, true, false, ◌⊎◌, Some, None, Option}
 use mathlib.Core.Option as m
 use lib.ListN.{get_elem?}
 use Rattle.atomic_table.specs.Table.{State, Me, Step, rest}
 use Rattle.atomic_table.specs.Seated.{TableId}
 use Rattle.atomic_table.specs.declared.shared.Seat.{Seat as Raw}
-use Rattle.std.specs.declared.snapshot.Snapshot.{Snapshot}
 use Rattle.abt_interleave.specs.declared.entries.Entry.{Entry}
 use Rattle.abt_interleave.specs.Histories.{last_stamp, Extends, RisesAbove, Leads, Legal, entry_stamps}
+use Rattle.abt_booth.specs.declared.made.Call.{Call}
 use Rattle.abt_booth.specs.declared.rule.View.{View}
 use Rattle.abt_booth.specs.declared.rule.Lot.{Lot}
 use Rattle.std.specs.List.{All}
@@ -24,14 +24,17 @@ TableState O A R = State (KeptLot O A R) (View O A R)
 abbrev pub SeatState : Type 0 → Type 0 → Type 0 → Type 0
 SeatState O A R = Me (KeptLot O A R) (View O A R)
 
--- the entry of the call that was made last, by seat n
-abbrev pub entry_at : {A R : Type 0} → ℕ → ℕ → Option (Snapshot A × Snapshot R) → List (Entry A R)
-entry_at n stamp (Some x) = record { stamp = stamp; caller = n; act = x.0.value; answer = x.1.value } ∷ []
-entry_at n stamp None = []
+-- a call of seat n, as an entry of the history
+abbrev pub entry_of : {A R : Type 0} → ℕ → Call A R → Entry A R
+entry_of n call = record { stamp = call.stamp; caller = n; act = call.act.value; answer = call.answer.value }
 
--- the word that counts the calls: the words before and after it are never used, so that nothing else is in its cache line
+-- the calls of seat n, as entries
+abbrev pub entries_of : {A R : Type 0} → ℕ → List (Call A R) → List (Entry A R)
+entries_of n calls = map (entry_of n) calls
+
+-- the word that counts the calls: the words before and after it are never used, and keep those that count apart
 abbrev pub counting : ℕ
-counting = 15
+counting = 3
 
 module _ {O A R : Type 0} where
   -- the counting word is n
@@ -101,23 +104,19 @@ module _ {O A R : Type 0} where
   abbrev pub took : (O → A → R → O → Type 0) → Step (KeptLot O A R) → SeatState O A R → ℕ → SeatState O A R → Type 0
   took does st m r m' = (r ≡ st.first → Takes does m r m') × (¬ (r ≡ st.first) → m' ≡ m)
 
-  -- the entry of the call that was made last on this lot, by seat n
-  abbrev pub entry_in : ℕ → KeptLot O A R → List (Entry A R)
-  entry_in n (Some lot) = entry_at n lot.clock lot.last.value
-  entry_in n None = []
+  -- the calls of the turn in which seat n had this lot
+  abbrev pub entries_in : ℕ → KeptLot O A R → List (Entry A R)
+  entries_in n (Some lot) = entries_of n lot.made.value
+  entries_in n None = []
 
   -- the same, of the lot that the seat holds
   abbrev pub called : ℕ → List (ℕ × KeptLot O A R) → List (Entry A R)
   called n [] = []
-  called n (x ∷ xs) = entry_in n x.1
+  called n (x ∷ xs) = entries_in n x.1
 
-  -- the turn is given back after a call
+  -- the turn is given back, after all calls that were made in it
   abbrev pub released : Step (KeptLot O A R) → SeatState O A R → ℕ → SeatState O A R → Type 0
   released st m r m' = m' ≡ (resting m.0 (m.0.seen ++ called m.0.number m.1), rest m.1)
-
-  -- the turn is given back with no call
-  abbrev pub yielded : Step (KeptLot O A R) → SeatState O A R → ℕ → SeatState O A R → Type 0
-  yielded st m r m' = m' ≡ (resting m.0 m.0.seen, rest m.1)
 
   -- the lowest number goes to a new seat
   abbrev pub dealt : View O A R → View O A R

@@ -33,6 +33,11 @@ module _ {O A R : Type 0} where
   added_by number act (called.Done stamp answer) = record { stamp = stamp; caller = number; act = act; answer = answer } ∷ []
   added_by number act (called.Worn back) = []
 
+  -- what a call answered to the seat of this number, by what the seat had seen before and has seen afterwards
+  abbrev pub IsReply : (O → A → R → O → Type 0) → O → ℕ → List (Entry A R) → List (Entry A R) → ℕ → A → Called O A R → Type 0
+  IsReply does opening number before after at act (called.Done stamp answer) = IsAnswered does opening number before after at act stamp answer
+  IsReply does opening number before after at act (called.Worn back) = IsWorn does opening number before after at act back
+
 module _ {O A R : Type 0} {g : Ghosts O A R} where
   -- the seat's number, by which its calls are known
   unfoldable pub number_of : Seat O A R g → ℕ
@@ -75,7 +80,4 @@ module _ {O A R : Type 0} {g : Ghosts O A R} where
 
   -- what a call answered, and what its seat has then seen
   abbrev pub Replies : (O → A → R → O → Type 0) → Booth O A R → Seat O A R g → Seat O A R g → ℕ → A → Called O A R → Type 0
-  Replies does booth old new at act (called.Done stamp answer) =
-      IsAnswered does (opening_of booth) (number_of old) (seen_of old) (seen_of new) at act stamp answer
-  Replies does booth old new at act (called.Worn back) =
-      IsWorn does (opening_of booth) (number_of old) (seen_of old) (seen_of new) at act back
+  Replies does booth old new at act reply = IsReply does (opening_of booth) (number_of old) (seen_of old) (seen_of new) at act reply

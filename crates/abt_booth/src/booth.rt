@@ -15,7 +15,7 @@ pub struct Booth<O: Object> {
     pub(crate) table: Table<Kept<O>, Knows<O>, Opening<O>, Turns<O>, Global>,
     // How many callers sleep until the turn is given back, or are about to.
     pub(crate) asleep: AtomicU64,
-    ghost shape: { (table.shared.table_id.words ≡ 31) × (table.shared.table_id.slots ≡ 1) },
+    ghost shape: { (table.shared.table_id.words ≡ 7) × (table.shared.table_id.slots ≡ 1) },
     ghost seated: { 1 ≤ table.shared.key.seats },
 }
 

@@ -68,7 +68,7 @@ impl<O: Object> Booth<O> {
         let Lot {
             object,
             clock,
-            last: _,
+            made: _,
         } = lot;
         Closed { object, clock }
     }

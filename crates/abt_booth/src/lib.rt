@@ -5,6 +5,9 @@
 mod booth;
 mod calls;
 mod close;
+mod holder;
+mod holding;
+mod made;
 mod make;
 mod object;
 mod plays;
@@ -12,4 +15,5 @@ mod rule;
 
 pub use booth::{Booth, Called, Closed, Gathered, Seat};
 pub use calls::LAST_STAMP;
+pub use holder::{Held, Holder};
 pub use object::Object;

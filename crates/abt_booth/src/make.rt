@@ -4,6 +4,7 @@ ghost use Rattle.abt_booth.specs.Rule.{keeper};
 ghost use Rattle.abt_booth.specs.Seats.{opening_of, seats_of, AreAllSeatsOf, AreNewSeatsOf};
 
 use crate::booth::{Booth, Raw, Seat};
+use crate::made::no_calls;
 use crate::object::Object;
 use crate::plays::Deal;
 use crate::rule::{Kept, Lot, Opening, ROOM, WORDS};
@@ -45,11 +46,10 @@ impl<O: Object> Booth<O> {
             object: Snapshot::of(&object),
             seats,
         };
-        let last = Snapshot::of(&None);
         slots.push_reserved(Some(Lot {
             object,
             clock: 0,
-            last,
+            made: no_calls(),
         }));
         match Table::new(alloc, &[0; WORDS], slots, &opening) {
             Ok((table, first)) => {
@@ -86,7 +86,7 @@ fn object_in<O, A, R>(mut slots: Vec<Option<Lot<O, A, R>>>) -> O
             Lot {
                 object,
                 clock: _,
-                last: _,
+                made: _,
             },
         ),
     ) = slots.pop()

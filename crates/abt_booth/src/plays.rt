@@ -15,22 +15,13 @@ impl<O: Object> Play<Option<Lot<O, O::Act, O::Answer>>, View<O, O::Act, O::Answe
     ghost then = { took O.does };
 }
 
-/// Gives the turn back after a call.
+/// Gives the turn back, after the calls that were made in it.
 pub(crate) struct Release;
 
 impl<O, A, R> Play<Option<Lot<O, A, R>>, View<O, A, R>> for Release {
     ghost use Rattle.abt_booth.specs.Rule.{released};
 
     ghost then = { released };
-}
-
-/// Gives the turn back with no call.
-pub(crate) struct Yield;
-
-impl<O, A, R> Play<Option<Lot<O, A, R>>, View<O, A, R>> for Yield {
-    ghost use Rattle.abt_booth.specs.Rule.{yielded};
-
-    ghost then = { yielded };
 }
 
 /// The lowest number goes to a new seat.

@@ -1,5 +1,6 @@
 //! What the table under a booth keeps, and what its seats know.
 
+use crate::made::Calls;
 use crate::object::Object;
 use abt_interleave::Entry;
 use atomic_table::TableRule;
@@ -7,11 +8,11 @@ use std::collections::LinkedList;
 use std::marker::PhantomData;
 use std::snapshot::Snapshot;
 
-/// How many words the table has. Fifteen stand on each side of the one that counts, so that nothing else is in its two cache lines.
-pub(crate) const WORDS: usize = 31;
+/// How many words the table has. Three stand on each side of the one that counts, so that no cache line has two that count.
+pub(crate) const WORDS: usize = 7;
 
 /// The word that counts the calls.
-pub(crate) const COUNTING: usize = 15;
+pub(crate) const COUNTING: usize = 3;
 
 /// For how many slots there is room. One is used: the rest keeps what stands behind it out of its cache lines.
 pub(crate) const ROOM: usize = 4;
@@ -28,12 +29,12 @@ pub struct View<O, A, R> {
     pub taken: LinkedList<(u64, LinkedList<Entry<A, R>>)>,
 }
 
-/// The object with its clock. The last act and its answer, if there was a call, are for the proof alone and take no bytes.
+/// The object with its clock. The calls that were made in the last turn are for the proof alone and take no bytes.
 #[derive(Drop)]
 pub struct Lot<O, A, R> {
     pub object: O,
     pub clock: u64,
-    pub last: Snapshot<Option<(Snapshot<A>, Snapshot<R>)>>,
+    pub made: Snapshot<Calls<A, R>>,
 }
 
 /// What the table's slot holds.

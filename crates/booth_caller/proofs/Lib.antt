@@ -1,3 +1,4 @@
 pub mod Calling
 pub mod Deliveries
 pub mod Totals
+pub mod TwoCalls

@@ -3,3 +3,4 @@ pub mod Counters
 pub mod Counts
 pub mod Letters
 pub mod Trays
+pub mod Turns

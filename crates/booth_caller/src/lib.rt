@@ -4,6 +4,8 @@
 
 mod counter;
 mod letters;
+mod turns;
 
 pub use counter::{Counter, add, add_on_threads, count};
 pub use letters::{Ask, Letter, Reply, Tray, deliver, pass_on};
+pub use turns::put_and_take;

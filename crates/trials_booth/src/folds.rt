@@ -18,7 +18,7 @@ fn strings(alloc: Global, words: &[&str]) -> Result<Vec<String>, AllocError> {
 // What is said of this status.
 fn message(status: u8) -> &'static [u8] {
     match status {
-        2 => b"abtfold: bad command line\n",
+        2 => b"abtfold: bad command line\nusage: abtfold W N\n",
         6 => b"abtfold: cannot write\n",
         _ => b"",
     }

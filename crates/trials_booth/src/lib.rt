@@ -8,6 +8,8 @@ mod folds;
 #[cfg(test)]
 mod futures;
 #[cfg(test)]
+mod holders;
+#[cfg(test)]
 mod letters;
 #[cfg(test)]
 mod rings;
