@@ -6,7 +6,7 @@ use Rattle.std.proofs.lemmas.List.{get_or-set_same, get_or-set_other, get_or_def
 use Rattle.std.proofs.lemmas.Option.{slice_get-get_or}
 use Rattle.abt_booth.specs.declared.booth.Booth.{Booth}
 use Rattle.abt_booth.specs.Calls.{IsClosed}
-use Rattle.abt_booth.specs.Seats.{IsSeatOf, number_of, opening_of, seats_of, seen_of}
+use Rattle.abt_booth.specs.Seats.{opening_of, seats_of}
 use Rattle.abt_interleave.proofs.Members.{Among}
 use Rattle.abt_commons.specs.declared.acts.Act.{Act}
 use Rattle.abt_commons.specs.declared.acts.Answer.{Answer}
@@ -14,8 +14,9 @@ use Rattle.abt_commons.specs.declared.split.SplitPass.{SplitPass}
 use Rattle.abt_commons.specs.Asks.{Does}
 use Rattle.abt_commons.specs.Held.{OneValue}
 use Rattle.abt_commons.specs.Splits.{seen_from}
-use Rattle.abt_commons.specs.Parting.{LastSeatHas, IsClosedWith, SiteSeat}
-use Rattle.abt_commons.specs.Closing.{WasClosed, WereClosed, HaveSeats, knew, knew_by}
+use Rattle.abt_commons.specs.Parting.{LastTurnHas, IsClosedWith}
+use Rattle.abt_commons.specs.Turns.{IsTurnOf, TurnValue}
+use Rattle.abt_commons.specs.Closing.{WasClosed, WereClosed, HaveTurns, knew, knew_by}
 use Rattle.abt_commons.proofs.Ranges.{get-right}
 
 abbrev SiteBooth : Type 0
@@ -23,11 +24,11 @@ SiteBooth = Booth OneValue Act Answer
 
 -- What passes have left.
 
--- this pass has the first seats of those that it had
+-- this pass has the first turns of those that it had
 pub record Remains (left : ℕ) (old now : SplitPass) : Type 0 where
-  pub many : length now.seats.items ≡ left
-  pub gone : List SiteSeat
-  pub rest : old.seats.items ≡ now.seats.items ++ gone
+  pub many : length now.turns.items ≡ left
+  pub gone : List TurnValue
+  pub rest : old.turns.items ≡ now.turns.items ++ gone
 
 -- so has each of these
 pub record Remain (left : ℕ) (old now : List SplitPass) : Type 0 where
@@ -55,45 +56,45 @@ within-between all xs ys x is =
     let b : length (xs ++ x ∷ []) ≡ length xs + 1 = length-append xs (x ∷ []) in
     omega (arith, a, b)
 
-pub remain-all : (booths : List SiteBooth) (passes : List SplitPass) → HaveSeats booths passes → Remain (length booths) passes passes
+pub remain-all : (booths : List SiteBooth) (passes : List SplitPass) → HaveTurns booths passes → Remain (length booths) passes passes
 remain-all booths passes have = record {
   many = refl;
   each = λ k p q lt. subst (λ v. Remains (length booths) (get_or passes k p) v) (get_or_default passes k p q lt)
-      (record { many = (have k p lt).many; gone = []; rest = and-nothing (get_or passes k p).seats.items });
+      (record { many = (have k p lt).many; gone = []; rest = and-nothing (get_or passes k p).turns.items });
 } where
-  and-nothing : (xs : List SiteSeat) → xs ≡ xs ++ []
+  and-nothing : (xs : List TurnValue) → xs ≡ xs ++ []
   and-nothing [] = refl
   and-nothing (x ∷ xs) = ap (λ ys. x ∷ ys) (and-nothing xs)
 
 -- The last booth that is left is closed.
 
-module _ (booths : List SiteBooth) (passes : List SplitPass) (have : HaveSeats booths passes) (left gone : List SiteBooth) (booth : SiteBooth) (is : booths ≡ (left ++ booth ∷ []) ++ gone)
+module _ (booths : List SiteBooth) (passes : List SplitPass) (have : HaveTurns booths passes) (left gone : List SiteBooth) (booth : SiteBooth) (is : booths ≡ (left ++ booth ∷ []) ++ gone)
     (now : List SplitPass) (remain : Remain (length left + 1) passes now) where
   within : length left < length booths
   within = within-between booths left gone booth is
 
-  -- the last seat that pass k had and has still
-  seat-at : (k : ℕ) (p : SplitPass) (init : List SiteSeat) (seat : SiteSeat) → k < length passes → (get_or now k p).seats.items ≡ init ++ seat ∷ []
-      → IsSeatOf booth seat × (number_of seat ≡ k) × (length init ≡ length left) × (slice_get (get_or passes k p).seats.items (length left) ≡ Some seat)
-  seat-at k p init seat lt ends =
+  -- the last turn that pass k had and has still
+  turn-at : (k : ℕ) (p : SplitPass) (init : List TurnValue) (turn : TurnValue) → k < length passes → (get_or now k p).turns.items ≡ init ++ turn ∷ []
+      → IsTurnOf booth turn × (turn.number ≡ k) × (length init ≡ length left) × (slice_get (get_or passes k p).turns.items (length left) ≡ Some turn)
+  turn-at k p init turn lt ends =
       let r = remain.each k p p lt in
-      let seats = (get_or passes k p).seats.items in
+      let turns = (get_or passes k p).turns.items in
       let n : length init ≡ length left =
-      (let a : length (get_or now k p).seats.items ≡ length init + 1 = ap length ends ∙ length-append init (seat ∷ []) in let b = r.many in omega (arith, a, b)) in
-      let split : seats ≡ (init ++ seat ∷ []) ++ r.gone = r.rest ∙ ap (λ xs. xs ++ r.gone) ends in
-      let own = (have k p lt).own (length left) booth seat within in
-      let at : get_or seats (length left) seat ≡ seat = ap (λ i. get_or seats i seat) (sym n) ∙ get-between seats init r.gone seat seat split in
-      let its = subst (λ v. IsSeatOf v seat × (number_of seat ≡ k)) (get-between booths left gone booth booth is)
-      (subst (λ v. IsSeatOf (get_or booths (length left) booth) v × (number_of v ≡ k)) at own) in
-      (its.0, its.1, n, ap (slice_get seats) (sym n) ∙ find-between seats init r.gone seat split)
+      (let a : length (get_or now k p).turns.items ≡ length init + 1 = ap length ends ∙ length-append init (turn ∷ []) in let b = r.many in omega (arith, a, b)) in
+      let split : turns ≡ (init ++ turn ∷ []) ++ r.gone = r.rest ∙ ap (λ xs. xs ++ r.gone) ends in
+      let own = (have k p lt).own (length left) booth turn within in
+      let at : get_or turns (length left) turn ≡ turn = ap (λ i. get_or turns i turn) (sym n) ∙ get-between turns init r.gone turn turn split in
+      let its = subst (λ v. IsTurnOf v turn × (turn.number ≡ k)) (get-between booths left gone booth booth is)
+      (subst (λ (v : TurnValue). IsTurnOf (get_or booths (length left) booth) v × (v.number ≡ k)) at own) in
+      (its.0, its.1, n, ap (slice_get turns) (sym n) ∙ find-between turns init r.gone turn split)
 
-  pub ends-as : (k : ℕ) (p : SplitPass) → k < length now → LastSeatHas booth k (get_or now k p).seats.items
+  pub ends-as : (k : ℕ) (p : SplitPass) → k < length now → LastTurnHas booth k (get_or now k p).turns.items
   ends-as k p lt =
       let less : k < length passes = subst (λ m. k < m) remain.many lt in
       let r = remain.each k p p less in
-      let some : 0 < length (get_or now k p).seats.items = (let m = r.many in omega (arith, m)) in
-      let l = last-of (get_or now k p).seats.items some in
-      let at = seat-at k p l.0 l.1 less l.2 in
+      let some : 0 < length (get_or now k p).turns.items = (let m = r.many in omega (arith, m)) in
+      let l = last-of (get_or now k p).turns.items some in
+      let at = turn-at k p l.0 l.1 less l.2 in
       (l.0, l.1, l.2, at.0, at.1)
 
   module _ (after : List SplitPass) (object : OneValue) (last : ℕ) (ending : IsClosedWith booth now after object last) where
@@ -101,10 +102,10 @@ module _ (booths : List SiteBooth) (passes : List SplitPass) (have : HaveSeats b
     remains-by k p q lt =
         let r = remain.each k p p lt in
         let gave = ending.parted.gave k p q (subst (λ m. k < m) (sym remain.many) lt) (subst (λ m. k < m) (sym remain.many) lt) in
-        let seats = (get_or after k q).seats.items in record {
-          many = (let a : length (get_or now k p).seats.items ≡ length seats + 1 = ap length gave.last ∙ length-append seats (gave.seat ∷ []) in let b = r.many in omega (arith, a, b));
-          gone = gave.seat ∷ r.gone;
-          rest = r.rest ∙ (ap (λ xs. xs ++ r.gone) gave.last ∙ append_assoc seats (gave.seat ∷ []) r.gone);
+        let turns = (get_or after k q).turns.items in record {
+          many = (let a : length (get_or now k p).turns.items ≡ length turns + 1 = ap length gave.last ∙ length-append turns (gave.turn ∷ []) in let b = r.many in omega (arith, a, b));
+          gone = gave.turn ∷ r.gone;
+          rest = r.rest ∙ (ap (λ xs. xs ++ r.gone) gave.last ∙ append_assoc turns (gave.turn ∷ []) r.gone);
         }
 
     pub remain-less : Remain (length left) passes after
@@ -113,8 +114,8 @@ module _ (booths : List SiteBooth) (passes : List SplitPass) (have : HaveSeats b
     knew-there : (k : ℕ) → k < length passes → (p : SplitPass) → slice_get passes k ≡ Some (get_or passes k p) → Among (k, knew passes (length left) k) ending.known
     knew-there k lt p found =
         let gave = ending.parted.gave k p p (subst (λ m. k < m) (sym remain.many) lt) (subst (λ m. k < m) (sym remain.many) lt) in
-        let at = seat-at k p (get_or after k p).seats.items gave.seat lt gave.last in
-        let seen : knew passes (length left) k ≡ seen_of gave.seat = ap (knew_by (length left)) found ∙ ap seen_from at.3 in
+        let at = turn-at k p (get_or after k p).turns.items gave.turn lt gave.last in
+        let seen : knew passes (length left) k ≡ gave.turn.seen = ap (knew_by (length left)) found ∙ ap seen_from at.3 in
         subst (λ entry. Among entry ending.known) (λ i. (at.1 i, sym seen i)) gave.there
 
     pub has-ended : (some : 0 < length passes) (count : seats_of booth ≡ length passes) (carried clock : ℕ) → clock ≡ max carried last → WasClosed passes (length left) booth carried object clock
@@ -181,7 +182,7 @@ none-ended booths passes carried = record {
 }
 
 -- the last booth that is left has ended too
-module _ (booths : List SiteBooth) (passes : List SplitPass) (have : HaveSeats booths passes) (left gone : List SiteBooth) (booth : SiteBooth) (is : booths ≡ (left ++ booth ∷ []) ++ gone)
+module _ (booths : List SiteBooth) (passes : List SplitPass) (have : HaveTurns booths passes) (left gone : List SiteBooth) (booth : SiteBooth) (is : booths ≡ (left ++ booth ∷ []) ++ gone)
     (now : List SplitPass) (remain : Remain (length left + 1) passes now) (after : List SplitPass) (object : OneValue) (last : ℕ) (ending : IsClosedWith booth now after object last)
     (carried : List ℕ) (objects : List OneValue) (clocks : List ℕ) (ended : WereClosed booths passes carried (length left + 1) objects clocks) (many : length booths ≤ length carried)
     (some : 0 < length passes) (count : seats_of booth ≡ length passes) where

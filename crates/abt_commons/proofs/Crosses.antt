@@ -10,7 +10,7 @@ use Rattle.abt_unit.proofs.unit.Unit.TheLaws.TheKnot.{sync-Unit}
 use Rattle.abt_unit.proofs.Crosses.{Unit-send, Workload-sync}
 use Rattle.abt_chain.specs.contracts.chain.Chain as Chain
 use Rattle.abt_chain.proofs.Crosses.{Chain-send}
-use Rattle.abt_booth.proofs.Crosses.{Booth-field-sync, Booth-sync, Seat-send}
+use Rattle.abt_booth.proofs.Crosses.{Booth-field-sync, Booth-sync, Held-send, Holder-field-send, Seat-send}
 use Rattle.abt_commons.specs.contracts.acts.Act as Act
 use Rattle.abt_commons.specs.contracts.acts.Answer as Answer
 use Rattle.abt_commons.specs.contracts.shared.Shared as Shared
@@ -22,7 +22,10 @@ use Rattle.abt_commons.specs.contracts.hall.ObjectsObject.TheImpl as ObjectsObje
 use Rattle.abt_commons.specs.contracts.acts.Ask as Ask
 use Rattle.abt_commons.specs.contracts.split.Split as Split
 use Rattle.abt_commons.specs.contracts.split.SplitPass as SplitPass
+use Rattle.abt_commons.specs.contracts.turn.Turn as Turn
+use Rattle.abt_commons.specs.contracts.owners.Owner as Owner
 use Rattle.abt_booth.specs.contracts.booth.Seat as Seat
+use Rattle.std.proofs.sync.atomic.AtomicU64.TheSendSync as word
 
 UnitBody-sync : IsSync UnitBody.the_row
 UnitBody-sync = search (sendable, crosses) depth 90 fits 20000
@@ -60,21 +63,30 @@ Hall-sync a R s =
     let booth = Booth-field-sync (Objects.the_row a) Ask.the_row Answer.the_row ObjectsObject.ghosts (Objects-send a) in
     search sendable depth 30
 
+Turn-send : (a : NamedLft) → IsSend (Turn.the_row a)
+Turn-send a =
+    let holder = Holder-field-send (One.the_row a) Act.the_row Answer.the_row OneObject.ghosts (One-send a) in
+    let held = Held-send (One.the_row a) Act.the_row Answer.the_row (One-send a) in
+    search (sendable, crosses) depth 30
+
 pub SplitPass-send : (a : NamedLft) → IsSend (SplitPass.the_row a)
 SplitPass-send a =
-    let seats = Vec-send (Seat.the_row (One.the_row a) Act.the_row Answer.the_row OneObject.ghosts) (Seat-send (One.the_row a) Act.the_row Answer.the_row OneObject.ghosts (One-send a)) in
-    search sendable depth 30
+    let turns = Vec-send (Turn.the_row a) (Turn-send a) in
+    search (sendable, crosses) depth 30
 
 -- the same, as a field of another struct
 pub SplitPass-field-send : (a : NamedLft) → IsSend (SplitPass.the_field a).row
 SplitPass-field-send a =
-    let seats = Vec-send (Seat.the_row (One.the_row a) Act.the_row Answer.the_row OneObject.ghosts) (Seat-send (One.the_row a) Act.the_row Answer.the_row OneObject.ghosts (One-send a)) in
-    search sendable depth 30
+    let turns = Vec-send (Turn.the_row a) (Turn-send a) in
+    search (sendable, crosses) depth 30
+
+Owner-sync : IsSync Owner.the_row
+Owner-sync = search (sendable, word.the_sync) depth 20
 
 pub Split-sync : (a : NamedLft) (R : RattleType) → IsSync R → IsSync (Split.the_row a R)
 Split-sync a R s =
     let booth = Booth-sync (One.the_row a) Act.the_row Answer.the_row OneObject.ghosts (One-send a) in
-    search (sendable, crosses, Vec-sync, Workload-sync, One-sync) depth 40
+    search (sendable, crosses, Vec-sync, Workload-sync, One-sync, Owner-sync, word.the_sync) depth 40
 
 -- all of these of passes and locks, for `search`
 pub ruleset commons_crosses = (Objects-send, HallPass-send, Hall-sync, SplitPass-send, SplitPass-field-send, Split-sync)

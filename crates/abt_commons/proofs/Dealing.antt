@@ -1,4 +1,4 @@
--- Seats are dealt to passes.
+-- Seats are dealt to passes, as turns.
 use Rattle.std.proofs.Common.{◌≡◌, ℕ, suc, ◌+◌, ◌<◌, ◌≤◌, List, [], ◌∷◌, ◌++◌, reverse, set, length, get_or, sym, ◌∙◌, ap, subst, arith, inl, inr, length-append, length-set, append_assoc}
 use Rattle.std.specs.Prelude.{vec_capacity}
 use Rattle.std.specs.List.{All}
@@ -7,18 +7,23 @@ use Rattle.std.proofs.lemmas.Bool.Decides.{eqb_tells}
 use Rattle.std.proofs.lemmas.List.{get_or-set_same, get_or-set_other, get_or_default, get_or_append_left, reverse-append}
 use Rattle.std.proofs.lemmas.List.Elements.{All-nil, All-cons, All-append}
 use Rattle.abt_booth.specs.declared.booth.Booth.{Booth}
+use Rattle.abt_booth.specs.declared.booth.Seat.{Seat}
 use Rattle.abt_booth.specs.Seats.{AreNewSeatsOf, IsSeatOf, number_of, seen_of}
 use Rattle.abt_commons.specs.declared.acts.Act.{Act}
 use Rattle.abt_commons.specs.declared.acts.Answer.{Answer}
 use Rattle.abt_commons.specs.declared.split.SplitPass.{SplitPass}
+use Rattle.abt_commons.specs.contracts.one.OneObject.TheImpl as OneObject
 use Rattle.abt_commons.specs.AllPasses.{AreAll}
 use Rattle.abt_commons.specs.Held.{OneValue}
 use Rattle.abt_commons.specs.Locking.{AreDealt, Gets, HaveGot, IsDealt}
-use Rattle.abt_commons.specs.Parting.{SiteSeat}
-use Rattle.abt_commons.specs.Splits.{AreSeats, HasSeenNothing, IsPassOf, SplitValue, pass_stream}
+use Rattle.abt_commons.specs.Splits.{AreTurns, HasSeenNothing, IsPassOf, SplitValue, pass_stream}
+use Rattle.abt_commons.specs.Turns.{IsTurnOf, TurnValue}
 
 abbrev pub SiteBooth : Type 0
 SiteBooth = Booth OneValue Act Answer
+
+abbrev pub SiteSeat : Type 0
+SiteSeat = Seat OneValue Act Answer OneObject.ghosts
 
 -- A seat goes to the pass of its number.
 
@@ -52,45 +57,46 @@ module _ (booth : SiteBooth) (old : List SplitPass) where
   }
 
 -- the pass of the last seat that is left gets it
-pub got-last : (booth : SiteBooth) (old mid : List SplitPass) (all now rest : List SiteSeat) (seat : SiteSeat) (left : ℕ) (d q : SplitPass) → AreNewSeatsOf booth all → all ≡ (now ++ seat ∷ []) ++ rest → length all ≡ length old
-    → left ≡ length now → HaveGot booth (left + 1) old mid → q.stream ≡ (get_or mid left d).stream → q.seats.items ≡ (get_or mid left d).seats.items ++ seat ∷ [] → vec_capacity q.seats ≡ vec_capacity (get_or mid left d).seats → HaveGot booth left old (set mid left q)
-got-last booth old mid all now rest seat left d q new is many at got stream more room =
+pub got-last : (booth : SiteBooth) (old mid : List SplitPass) (all now rest : List SiteSeat) (seat : SiteSeat) (turn : TurnValue) (left : ℕ) (d q : SplitPass) → AreNewSeatsOf booth all → all ≡ (now ++ seat ∷ []) ++ rest → length all ≡ length old
+    → left ≡ length now → HaveGot booth (left + 1) old mid → (IsSeatOf booth seat → IsTurnOf booth turn) → turn.number ≡ number_of seat → turn.seen ≡ seen_of seat
+    → q.stream ≡ (get_or mid left d).stream → q.turns.items ≡ (get_or mid left d).turns.items ++ turn ∷ [] → vec_capacity q.turns ≡ vec_capacity (get_or mid left d).turns → HaveGot booth left old (set mid left q)
+got-last booth old mid all now rest seat turn left d q new is many at got of number seen stream more room =
     let its = gets-last booth all now rest seat new is in
     let n : length all ≡ length now + suc (length rest) = ap length (is ∙ append_assoc now (seat ∷ []) rest) ∙ length-append now (seat ∷ rest) in
     let lt : left < length old = omega (arith, n, many, at) in
     let in-mid : left < length mid = subst (λ m. left < m) (sym got.many) lt in
     got-more booth old left mid q got lt (λ p.
     (let was : get_or mid left d ≡ get_or old left p = get_or_default mid left d p in-mid ∙ got.others left p (omega arith) in
-    subst (λ v. Gets booth left v q) was (record { stream = stream; seat = seat; more = more; its = its.0; number = its.1 ∙ sym at; fresh = its.2; room = room })))
+    subst (λ v. Gets booth left v q) was (record { stream = stream; turn = turn; more = more; its = of its.0; number = number ∙ (its.1 ∙ sym at); fresh = seen ∙ its.2; room = room })))
 
--- One booth more, with a seat for each pass.
+-- One booth more, with a turn for each pass.
 
 module _ (booths : List SiteBooth) (booth : SiteBooth) (number : ℕ) where
-  seats-more : (seats : List SiteSeat) (seat : SiteSeat) → AreSeats number booths seats → IsSeatOf booth seat → number_of seat ≡ number → AreSeats number (booths ++ booth ∷ []) (seats ++ seat ∷ [])
-  seats-more seats seat have its is = record {
-    many = length-append seats (seat ∷ []) ∙ (ap (λ n. n + 1) have.many ∙ sym (length-append booths (booth ∷ [])));
-    own = λ i b s lt. elim (eqb_tells i (length booths)) [
+  turns-more : (turns : List TurnValue) (turn : TurnValue) → AreTurns number booths turns → IsTurnOf booth turn → turn.number ≡ number → AreTurns number (booths ++ booth ∷ []) (turns ++ turn ∷ [])
+  turns-more turns turn have its is = record {
+    many = length-append turns (turn ∷ []) ∙ (ap (λ n. n + 1) have.many ∙ sym (length-append booths (booth ∷ [])));
+    own = λ i b t lt. elim (eqb_tells i (length booths)) [
       | inl e ↦
           let bo : booth ≡ get_or (booths ++ booth ∷ []) i b = sym (get_or-append_seam booths booth [] b) ∙ ap (λ j. get_or (booths ++ booth ∷ []) j b) (sym e.1) in
-          let se : seat ≡ get_or (seats ++ seat ∷ []) i s = sym (get_or-append_seam seats seat [] s) ∙ ap (λ j. get_or (seats ++ seat ∷ []) j s) (have.many ∙ sym e.1) in
-          subst (λ v. IsSeatOf v (get_or (seats ++ seat ∷ []) i s) × (number_of (get_or (seats ++ seat ∷ []) i s) ≡ number)) bo (subst (λ v. IsSeatOf booth v × (number_of v ≡ number)) se (its, is))
+          let tu : turn ≡ get_or (turns ++ turn ∷ []) i t = sym (get_or-append_seam turns turn [] t) ∙ ap (λ j. get_or (turns ++ turn ∷ []) j t) (have.many ∙ sym e.1) in
+          subst (λ v. IsTurnOf v (get_or (turns ++ turn ∷ []) i t) × ((get_or (turns ++ turn ∷ []) i t).number ≡ number)) bo (subst (λ (v : TurnValue). IsTurnOf booth v × (v.number ≡ number)) tu (its, is))
       | inr e ↦
           let many : length (booths ++ booth ∷ []) ≡ length booths + 1 = length-append booths (booth ∷ []) in
           let less : i < length booths = (let ne = e.1 in omega (arith, lt, many, ne)) in
-          let less' : i < length seats = subst (λ n. i < n) (sym have.many) less in
-          subst (λ v. IsSeatOf v (get_or (seats ++ seat ∷ []) i s) × (number_of (get_or (seats ++ seat ∷ []) i s) ≡ number)) (sym (get_or_append_left booths (booth ∷ []) b i less))
-          (subst (λ v. IsSeatOf (get_or booths i b) v × (number_of v ≡ number)) (sym (get_or_append_left seats (seat ∷ []) s i less')) (have.own i b s less))
+          let less' : i < length turns = subst (λ n. i < n) (sym have.many) less in
+          subst (λ v. IsTurnOf v (get_or (turns ++ turn ∷ []) i t) × ((get_or (turns ++ turn ∷ []) i t).number ≡ number)) (sym (get_or_append_left booths (booth ∷ []) b i less))
+          (subst (λ (v : TurnValue). IsTurnOf (get_or booths i b) v × (v.number ≡ number)) (sym (get_or_append_left turns (turn ∷ []) t i less')) (have.own i b t less))
     ];
   }
 
   dealt-by : (room : ℕ) (old new : SplitPass) → IsDealt booths (room + 1) number old → Gets booth number old new → IsDealt (booths ++ booth ∷ []) room number new
   dealt-by room old new dealt gets = record {
     stream = gets.stream ∙ dealt.stream;
-    seats = subst (AreSeats number (booths ++ booth ∷ [])) (sym gets.more) (seats-more old.seats.items gets.seat dealt.seats gets.its gets.number);
-    fresh = subst (λ seats. All (λ seat. seen_of seat ≡ []) seats) (sym gets.more)
-        (All-append (λ (seat : SiteSeat). seen_of seat ≡ []) old.seats.items (gets.seat ∷ []) dealt.fresh (All-cons (λ (seat : SiteSeat). seen_of seat ≡ []) gets.seat [] gets.fresh (All-nil (λ (seat : SiteSeat). seen_of seat ≡ []))));
+    turns = subst (AreTurns number (booths ++ booth ∷ [])) (sym gets.more) (turns-more old.turns.items gets.turn dealt.turns gets.its gets.number);
+    fresh = subst (λ turns. All (λ turn. turn.seen ≡ []) turns) (sym gets.more)
+        (All-append (λ (turn : TurnValue). turn.seen ≡ []) old.turns.items (gets.turn ∷ []) dealt.fresh (All-cons (λ (turn : TurnValue). turn.seen ≡ []) gets.turn [] gets.fresh (All-nil (λ (turn : TurnValue). turn.seen ≡ []))));
     room =
-        (let many : length new.seats.items ≡ length old.seats.items + 1 = ap length gets.more ∙ length-append old.seats.items (gets.seat ∷ []) in
+        (let many : length new.turns.items ≡ length old.turns.items + 1 = ap length gets.more ∙ length-append old.turns.items (gets.turn ∷ []) in
         let r = dealt.room in
         let s = gets.room in
         omega (arith, many, r, s));
@@ -100,6 +106,22 @@ pub dealt-more : (booths : List SiteBooth) (booth : SiteBooth) (room n : ℕ) (o
 dealt-more booths booth room n old new dealt got = record {
   many = got.many ∙ dealt.many;
   each = λ k pass lt. dealt-by booths booth k room (get_or old k pass) (get_or new k pass) (dealt.each k pass lt) (got.got k pass pass (omega arith) (subst (λ m. k < m) (sym dealt.many) lt));
+}
+
+-- one pass more
+pub dealt-next : (booths : List SiteBooth) (room n : ℕ) (passes : List SplitPass) (pass : SplitPass) → AreDealt booths room n passes → IsDealt booths room n pass → AreDealt booths room (n + 1) (passes ++ pass ∷ [])
+dealt-next booths room n passes pass dealt one = record {
+  many = length-append passes (pass ∷ []) ∙ ap (λ m. m + 1) dealt.many;
+  each = λ k d lt. elim (eqb_tells k (length passes)) [
+    | inl e ↦
+        let here : pass ≡ get_or (passes ++ pass ∷ []) k d = sym (get_or-append_seam passes pass [] d) ∙ ap (λ j. get_or (passes ++ pass ∷ []) j d) (sym e.1) in
+        let last : n ≡ k = sym dealt.many ∙ sym e.1 in
+        subst (IsDealt booths room k) here (subst (λ m. IsDealt booths room m pass) last one)
+    | inr e ↦
+        let many = dealt.many in
+        let less : k < n = (let ne = e.1 in omega (arith, lt, many, ne)) in
+        subst (IsDealt booths room k) (sym (get_or_append_left passes (pass ∷ []) d k (subst (λ m. k < m) (sym many) less))) (dealt.each k d less)
+  ];
 }
 
 -- the object that goes from the room into a booth stays where it is among all
@@ -113,7 +135,7 @@ dealt-passes split room n passes dealt = (
     many = dealt.many;
     each = λ k pass lt.
         (let d = dealt.each k pass (subst (λ m. k < m) dealt.many lt) in
-        subst (λ s. AreSeats s split.booths (get_or passes k pass).seats.items) (sym d.stream) d.seats);
+        subst (λ s. AreTurns s split.booths (get_or passes k pass).turns.items) (sym d.stream) d.turns);
     in_order = λ k pass lt. (dealt.each k pass (subst (λ m. k < m) dealt.many lt)).stream;
   },
   λ k pass lt. (dealt.each k pass (subst (λ m. k < m) dealt.many lt)).fresh,

@@ -1,4 +1,5 @@
 pub mod Answered
+pub mod Asking
 pub mod Closings
 pub mod Crosses
 pub mod Dealing
@@ -15,8 +16,10 @@ pub mod Parts
 pub mod Placed
 pub mod Ranges
 pub mod Rows
+pub mod SameVec
 pub mod SplitLefts
 pub mod SplitSights
 pub mod Things
+pub mod TurnsSeen
 pub mod Untouched
 pub mod Whole

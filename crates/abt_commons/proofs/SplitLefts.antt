@@ -159,11 +159,11 @@ module _ (split : SplitValue) (passes : List SplitPass) (are : AreBooths split.w
 
   seen-at : (x : Site) (i : ℕ) → site_number W x ≡ Some i → (p : Option SplitPass) → site_line W x (knew_by i p) ≡ sights_from split p x
   seen-at x i is None = refl
-  seen-at x i is (Some pass) = ap (λ n. site_line W x (seen_by pass.seats.items n)) (sym is)
+  seen-at x i is (Some pass) = ap (λ n. site_line W x (seen_by pass.turns.items n)) (sym is)
 
   unseen : (x : Site) → site_number W x ≡ None → (p : Option SplitPass) → [] ≡ sights_from split p x
   unseen x is None = refl
-  unseen x is (Some pass) = ap (λ n. site_line W x (seen_by pass.seats.items n)) (sym is)
+  unseen x is (Some pass) = ap (λ n. site_line W x (seen_by pass.turns.items n)) (sym is)
 
   -- the lock's last stamp
   record IsLeft (x : Site) : Type 0 where

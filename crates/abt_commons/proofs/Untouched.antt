@@ -11,16 +11,16 @@ use Rattle.abt_machine.specs.Values.{NotHere}
 use Rattle.abt_booth.specs.declared.booth.Booth.{Booth}
 use Rattle.abt_interleave.specs.declared.entries.Entry.{Entry}
 use Rattle.abt_interleave.specs.Histories.{Extends, Leads, calls_of, last_stamp, entry_stamps}
-use Rattle.abt_booth.specs.Seats.{opening_of, seen_of}
+use Rattle.abt_booth.specs.Seats.{opening_of}
 use Rattle.abt_interleave.proofs.Members.{from-among}
 use Rattle.abt_commons.specs.declared.acts.Act.{Act}
 use Rattle.abt_commons.specs.declared.acts.Answer.{Answer}
 use Rattle.abt_commons.specs.declared.split.SplitPass.{SplitPass}
 use Rattle.abt_commons.specs.Asks.{Does}
 use Rattle.abt_commons.specs.Held.{IsWhole, OneValue, objects_value}
-use Rattle.abt_commons.specs.Parting.{SiteSeat}
 use Rattle.abt_commons.specs.Locking.{AreDealt}
 use Rattle.abt_commons.specs.Splits.{HasSeenNothing, SplitValue, seen_from}
+use Rattle.abt_commons.specs.Turns.{TurnValue}
 use Rattle.abt_commons.specs.Closing.{AllUnlocked, WasClosed, WereClosed, knew, knew_by}
 use Rattle.abt_commons.proofs.Dealing.{dealt-passes}
 
@@ -35,8 +35,8 @@ no-call n (e ∷ es) below none =
 
 module _ (passes : List SplitPass) (fresh : All HasSeenNothing passes) where
   nothing-by : (i : ℕ) (p : SplitPass) → HasSeenNothing p → knew_by i (Some p) ≡ []
-  nothing-by i p none = elim (slice_get_cases p.seats.items i).1 [
-    | inl x ↦ ap seen_from x.2 ∙ subst (λ (s : SiteSeat). seen_of s ≡ []) x.3 (none i x.0 x.1)
+  nothing-by i p none = elim (slice_get_cases p.turns.items i).1 [
+    | inl x ↦ ap seen_from x.2 ∙ subst (λ (t : TurnValue). t.seen ≡ []) x.3 (none i x.0 x.1)
     | inr past ↦ ap seen_from past.1
   ]
 

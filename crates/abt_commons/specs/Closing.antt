@@ -10,17 +10,17 @@ use Rattle.abt_commons.specs.declared.acts.Answer.{Answer}
 use Rattle.abt_commons.specs.declared.split.SplitPass.{SplitPass}
 use Rattle.abt_commons.specs.Asks.{Does}
 use Rattle.abt_commons.specs.Held.{OneValue}
-use Rattle.abt_commons.specs.Splits.{AreSeats, seen_from}
+use Rattle.abt_commons.specs.Splits.{AreTurns, seen_from}
 
--- each of these passes has a seat of each booth, with its number
-abbrev pub HaveSeats : List (Booth OneValue Act Answer) → List SplitPass → Type 0
-HaveSeats booths passes = (k : ℕ) (pass : SplitPass) → k < length passes → AreSeats k booths (slice_index_or passes k pass).seats.items
+-- each of these passes has the turn of each booth, with its number
+abbrev pub HaveTurns : List (Booth OneValue Act Answer) → List SplitPass → Type 0
+HaveTurns booths passes = (k : ℕ) (pass : SplitPass) → k < length passes → AreTurns k booths (slice_index_or passes k pass).turns.items
 
 -- what pass k had seen at lock i
 
 abbrev pub knew_by : ℕ → Option SplitPass → List (Entry Act Answer)
 knew_by i None = []
-knew_by i (Some pass) = seen_from (slice_get pass.seats.items i)
+knew_by i (Some pass) = seen_from (slice_get pass.turns.items i)
 
 abbrev pub knew : List SplitPass → ℕ → ℕ → List (Entry Act Answer)
 knew passes i k = knew_by i (slice_get passes k)

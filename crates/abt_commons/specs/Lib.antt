@@ -16,3 +16,4 @@ pub mod Replies
 pub mod Sights
 pub mod Sites
 pub mod Splits
+pub mod Turns

@@ -1,24 +1,26 @@
 -- Locks and passes of a split, and what it leaves.
-use Rattle.std.specs.Prelude.{ℕ, ◌≡◌, ◌<◌, ◌≤◌, max, List, [], length, map, slice_get, slice_index_or, Option, None, Some}
+use Rattle.std.specs.Prelude.{ℕ, ◌≡◌, ◌<◌, ◌≤◌, max, List, [], length, map, slice_get, slice_index_or, slice_set, Option, None, Some}
 use Rattle.std.specs.List.{All}
 use Rattle.abt_machine.specs.declared.events.Site.{Site}
 use Rattle.abt_machine.specs.declared.workload.Parts.{Parts}
 use Rattle.abt_machine.specs.Acts as asked
 use Rattle.abt_booth.specs.declared.booth.Booth.{Booth}
-use Rattle.abt_booth.specs.declared.booth.Seat.{Seat}
+use Rattle.abt_booth.specs.declared.booth.Called.{Called}
 use Rattle.abt_interleave.specs.declared.entries.Entry.{Entry}
-use Rattle.abt_booth.specs.declared.object.Object.{Ghosts}
-use Rattle.abt_booth.specs.Seats.{IsSeatOf, number_of, opening_of, seats_of, seen_of}
+use Rattle.abt_interleave.specs.Histories.{Extends}
+use Rattle.abt_booth.specs.Seats.{IsReply, opening_of, seats_of}
 use Rattle.abt_simulation.specs.Merging.{machine_of}
 use Rattle.abt_weave.specs.Seen.{line_seen}
 use Rattle.abt_commons.specs.declared.acts.Act.{Act}
 use Rattle.abt_commons.specs.declared.acts.Answer.{Answer}
 use Rattle.abt_commons.specs.declared.split.SplitPass.{SplitPass}
 use Rattle.abt_commons.specs.Acts.{act_of, answer_of}
+use Rattle.abt_commons.specs.Asks.{Does}
 use Rattle.abt_commons.specs.Sites.{site_number}
 use Rattle.abt_commons.specs.Held.{OneValue, ObjectsValue, IsWhole, objects_value, object_at, clock_at}
 use Rattle.abt_commons.specs.Replies.{Told}
 use Rattle.abt_commons.specs.Sights.{SiteCall, Leaves, Shows, nothing_stored}
+use Rattle.abt_commons.specs.Turns.{IsTurnOf, TurnValue}
 
 -- each site has a lock of its own
 abbrev pub own_lock : Site → Site
@@ -43,24 +45,23 @@ pub record AreBooths (W : Parts) (n : ℕ) (booths : List (Booth OneValue Act An
   pub seated : All (λ booth. seats_of booth ≡ n) booths
   pub some : 1 ≤ n
 
-module _ {g : Ghosts OneValue Act Answer} where
-  -- a seat of each booth, with this number
-  pub record AreSeats (number : ℕ) (booths : List (Booth OneValue Act Answer)) (seats : List (Seat OneValue Act Answer g)) : Type 0 where
-    pub many : length seats ≡ length booths
-    pub own : (i : ℕ) (booth : Booth OneValue Act Answer) (seat : Seat OneValue Act Answer g) → i < length booths
-        → IsSeatOf (slice_index_or booths i booth) (slice_index_or seats i seat) × (number_of (slice_index_or seats i seat) ≡ number)
+-- the turn of each booth, with this number
+pub record AreTurns (number : ℕ) (booths : List (Booth OneValue Act Answer)) (turns : List TurnValue) : Type 0 where
+  pub many : length turns ≡ length booths
+  pub own : (i : ℕ) (booth : Booth OneValue Act Answer) (turn : TurnValue) → i < length booths
+      → IsTurnOf (slice_index_or booths i booth) (slice_index_or turns i turn) × ((slice_index_or turns i turn).number ≡ number)
 
-  abbrev pub seen_from : Option (Seat OneValue Act Answer g) → List (Entry Act Answer)
-  seen_from None = []
-  seen_from (Some seat) = seen_of seat
+abbrev pub seen_from : Option TurnValue → List (Entry Act Answer)
+seen_from None = []
+seen_from (Some turn) = turn.seen
 
-  abbrev pub seen_by : List (Seat OneValue Act Answer g) → Option ℕ → List (Entry Act Answer)
-  seen_by seats None = []
-  seen_by seats (Some i) = seen_from (slice_get seats i)
+abbrev pub seen_by : List TurnValue → Option ℕ → List (Entry Act Answer)
+seen_by turns None = []
+seen_by turns (Some i) = seen_from (slice_get turns i)
 
-  -- what seats have seen of the lines of all sites
-  abbrev pub sights : Parts → List (Seat OneValue Act Answer g) → Site → List SiteCall
-  sights W seats x = site_line W x (seen_by seats (site_number W x))
+-- what was seen of the lines of all sites
+abbrev pub sights : Parts → List TurnValue → Site → List SiteCall
+sights W turns x = site_line W x (seen_by turns (site_number W x))
 
 -- a lock for each object, and the clocks that were carried to them
 pub record SplitValue : Type 0 where
@@ -80,17 +81,35 @@ carried_to split x = clock_at (opening_of_split split) x
 abbrev pub pass_stream : SplitPass → ℕ
 pass_stream pass = pass.stream
 
--- the pass has a seat of each lock, with its stream's number
+-- the pass has the turn of each lock, with its stream's number
 abbrev pub IsPassOf : SplitValue → SplitPass → Type 0
-IsPassOf split pass = AreSeats pass.stream split.booths pass.seats.items
+IsPassOf split pass = AreTurns pass.stream split.booths pass.turns.items
 
 -- the pass has seen no call
 abbrev pub HasSeenNothing : SplitPass → Type 0
-HasSeenNothing pass = All (λ seat. seen_of seat ≡ []) pass.seats.items
+HasSeenNothing pass = All (λ turn. turn.seen ≡ []) pass.turns.items
 
 -- what a pass has seen of the lines of all sites
 abbrev pub sights_of : SplitValue → SplitPass → Site → List SiteCall
-sights_of split pass = sights split.workload pass.seats.items
+sights_of split pass = sights split.workload pass.turns.items
+
+-- a pass has met more calls at this lock, by a turn that may be kept then
+pub record TakesAt (booth : Booth OneValue Act Answer) (number : ℕ) (old new : SplitPass) : Type 0 where
+  pub stream : new.stream ≡ old.stream
+  pub turn : TurnValue
+  pub turns : new.turns.items ≡ slice_set old.turns.items number turn
+  pub its : IsTurnOf booth turn
+  pub numbered : turn.number ≡ (slice_index_or old.turns.items number turn).number
+  pub met : Extends (slice_index_or old.turns.items number turn).number (slice_index_or old.turns.items number turn).seen turn.seen
+
+-- a pass asked the object of this lock, and its turn is another one then
+pub record AsksAt (booth : Booth OneValue Act Answer) (number : ℕ) (old : SplitPass) (at : ℕ) (act : Act) (called : Called OneValue Act Answer) (new : SplitPass) : Type 0 where
+  pub stream : new.stream ≡ old.stream
+  pub turn : TurnValue
+  pub turns : new.turns.items ≡ slice_set old.turns.items number turn
+  pub its : IsTurnOf booth turn
+  pub numbered : turn.number ≡ (slice_index_or old.turns.items number turn).number
+  pub reply : IsReply Does (opening_of booth) (slice_index_or old.turns.items number turn).number (slice_index_or old.turns.items number turn).seen turn.seen at act called
 
 -- what the pass sees by a call
 abbrev pub SplitMoves : SplitValue → SplitPass → Site → ℕ → asked.Act → Told → SplitPass → Type 0

@@ -64,9 +64,8 @@ impl<'w, R> Model for Hall<'w, R> {
 }
 
 impl<'w, R: Wait> Commons<'w> for Hall<'w, R> {
-    ghost use Rattle.abt_booth.specs.Seats.{IsSeatOf, number_of, opening_of, seats_of, seen_of};
-    ghost use Rattle.abt_commons.specs.AllPasses.{AreAll};
-    ghost use Rattle.abt_commons.specs.Halls.{HallLeft, hall_line, the_lock};
+    ghost use Rattle.abt_booth.specs.Seats.{IsSeatOf, number_of, opening_of, seen_of};
+    ghost use Rattle.abt_commons.specs.Halls.{hall_line, the_lock};
     ghost use Rattle.abt_commons.specs.Sights.{Shows};
 
     type Pass = Seat<Objects<'w>>;
@@ -81,10 +80,6 @@ impl<'w, R: Wait> Commons<'w> for Hall<'w, R> {
         Shows (opening_of hall.booth).workload the_lock (λ l. hall.clock) (number_of old)
         (λ l. hall_line (opening_of hall.booth).workload (seen_of old)) x at act told (λ l. hall_line (opening_of hall.booth).workload (seen_of new)) };
 
-    ghost streams = { λ hall. seats_of hall.booth };
-
-    ghost leaves = { λ hall passes held. HallLeft hall.booth hall.clock passes held };
-
     #[inline(always)]
     fn call(&self, pass: &mut Seat<Objects<'w>>, site: Site, at: u64, act: Act) -> Reply {
         let raised = at.max(self.clock);
@@ -94,18 +89,7 @@ impl<'w, R: Wait> Commons<'w> for Hall<'w, R> {
         }
     }
 
-    fn close(self, passes: Vec<Seat<Objects<'w>>>) -> Objects<'w>
-        requires passes { AreAll (IsSeatOf self.booth) number_of (seats_of self.booth) passes.items }
-        ensures leaves { HallLeft self.entry.booth self.entry.clock passes.entry.items result }
-    {
-        let Hall {
-            rt: _,
-            booth,
-            clock,
-        } = self;
-        let closed = booth.close(passes);
-        closed.object.with_clock(clock.max(closed.clock))
-    }
+    fn rest(&self, _pass: &mut Seat<Objects<'w>>) {}
 }
 
 impl<'w, R: Wait> Hall<'w, R> {
@@ -127,6 +111,20 @@ impl<'w, R: Wait> Hall<'w, R> {
         let clock = objects.greatest_clock();
         let (booth, seats) = Booth::make(alloc, objects, streams)?;
         Ok((Hall { rt, booth, clock }, seats))
+    }
+
+    /// The objects, once no stream calls any longer. It waits for nobody, and takes no memory.
+    pub fn close(self, passes: Vec<HallPass<'w>>) -> Objects<'w>
+        requires passes { AreAll (IsSeatOf self.booth) number_of (seats_of self.booth) passes.items }
+        ensures leaves { HallLeft self.entry.booth self.entry.clock passes.entry.items result }
+    {
+        let Hall {
+            rt: _,
+            booth,
+            clock,
+        } = self;
+        let closed = booth.close(passes);
+        closed.object.with_clock(clock.max(closed.clock))
     }
 }
 

@@ -4,16 +4,18 @@ ghost use Rattle.std.specs.Prelude.{ℕ, ◌≡◌, ◌+◌, ◌<◌, ◌≤◌,
 ghost use Rattle.std.specs.List.{All};
 ghost use Rattle.abt_booth.specs.Seats.{AreNewSeatsOf, opening_of, seats_of};
 ghost use Rattle.abt_commons.specs.declared.split.SplitPass.{SplitPass};
-ghost use Rattle.abt_commons.specs.Locking.{AreDealt, HaveGot};
+ghost use Rattle.abt_commons.specs.Locking.{AreDealt, HaveGot, IsDealt};
 
+use crate::habits::Habits;
 use crate::one::One;
 use crate::split::SplitPass;
+use crate::turn::Turn;
 use abt_booth::{Booth, Seat};
 use abt_machine::Want;
 use std::alloc::{AllocError, Global};
 
-// Passes with no seat, each with room for that count of seats.
-pub(crate) fn seatless<'w>(
+// Passes with no turn, each with room for that count of turns.
+pub(crate) fn turnless<'w>(
     alloc: Global,
     streams: u32,
     count: usize,
@@ -22,13 +24,23 @@ pub(crate) fn seatless<'w>(
 {
     let mut passes = Vec::with_capacity(alloc, streams as usize)?;
     for stream in 0..streams {
-        let seats = Vec::with_capacity(alloc, count)?;
-        passes.push_reserved(SplitPass { stream, seats });
+        passes.push_reserved(without_turns(alloc, stream, count)?);
     }
     Ok(passes)
 }
 
-// Makes a booth around each object in the room, from the room's end on, and deals its seats to the passes. Err: out of memory; the
+// The pass of this stream.
+fn without_turns<'w>(alloc: Global, stream: u32, count: usize) -> Result<SplitPass<'w>, AllocError>
+    ensures { IfOk result (λ pass. IsDealt [] count stream pass) }
+{
+    Ok(SplitPass {
+        stream,
+        turns: Vec::with_capacity(alloc, count)?,
+        habits: Habits::new(alloc, count)?,
+    })
+}
+
+// Makes a booth around each object in the room, from the room's end on, and deals its seats to the passes as turns. Err: out of memory; the
 // room has the objects that are left.
 pub(crate) fn lock_all<'w>(
     alloc: Global,
@@ -62,26 +74,26 @@ pub(crate) fn lock_all<'w>(
     Ok(())
 }
 
-// Each pass gets the seat of its number.
+// Each pass gets the seat of its number, as a turn.
 fn deal<'w>(booth: &Booth<One<'w>>, passes: &mut [SplitPass<'w>], mut seats: Vec<Seat<One<'w>>>)
     requires seats { AreNewSeatsOf booth.now seats.items }
     requires many { length seats.items ≡ length passes.old }
-    requires room { (k : ℕ) (pass : SplitPass) → k < length passes.old → length (slice_index_or passes.old k pass).seats.items < vec_capacity (slice_index_or passes.old k pass).seats }
+    requires room { (k : ℕ) (pass : SplitPass) → k < length passes.old → length (slice_index_or passes.old k pass).turns.items < vec_capacity (slice_index_or passes.old k pass).turns }
     ensures { HaveGot booth.now 0 passes.old passes.new }
 {
     let _booth = booth;
     let mut left = passes.len();
     while let Some(seat) = seats.pop() {
         left -= 1;
-        give(&mut passes[left], seat);
+        give(&mut passes[left], Turn::new(seat));
     }
 }
 
-fn give<'w>(pass: &mut SplitPass<'w>, seat: Seat<One<'w>>)
-    requires { length pass.old.seats.items < vec_capacity pass.old.seats }
+fn give<'w>(pass: &mut SplitPass<'w>, turn: Turn<'w>)
+    requires { length pass.old.turns.items < vec_capacity pass.old.turns }
     ensures stream { pass.new.stream ≡ pass.old.stream }
-    ensures seats { pass.new.seats.items ≡ pass.old.seats.items ++ seat.entry ∷ [] }
-    ensures room { vec_capacity pass.new.seats ≡ vec_capacity pass.old.seats }
+    ensures turns { pass.new.turns.items ≡ pass.old.turns.items ++ turn.entry ∷ [] }
+    ensures room { vec_capacity pass.new.turns ≡ vec_capacity pass.old.turns }
 {
-    pass.seats.push_reserved(seat);
+    pass.turns.push_reserved(turn);
 }

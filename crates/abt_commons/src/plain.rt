@@ -1,8 +1,10 @@
 //! All objects in the hands of one caller.
 
-ghost use Rattle.std.specs.Prelude.{◌≡◌, ◌≤◌, ◌^◌};
+ghost use Rattle.std.specs.Prelude.{◌≡◌, ◌≤◌, ◌^◌, [], ◌∷◌};
 ghost use Rattle.abt_calls.specs.Asking.{MayCall};
 ghost use Rattle.abt_commons.specs.Acts.{IsFreeAct, act_of};
+ghost use Rattle.abt_commons.specs.AllPasses.{AreAll};
+ghost use Rattle.abt_commons.specs.Held.{ObjectsValue};
 ghost use Rattle.abt_commons.specs.Replies.{Replies, told_by};
 ghost use Rattle.abt_commons.specs.Plains.{PlainMoves};
 
@@ -50,12 +52,21 @@ impl<'w> Plain<'w> {
     {
         (Plain { w: objects.w }, PlainPass { objects })
     }
+
+    /// The objects of the one pass.
+    pub fn close(self, mut passes: Vec<PlainPass<'w>>) -> Objects<'w>
+        requires passes { AreAll (λ (pass : ObjectsValue). pass.workload ≡ self) (λ (pass : ObjectsValue). 0) 1 passes.items }
+        ensures leaves { passes.entry.items ≡ result ∷ [] }
+    {
+        let Some(pass) = passes.pop() else {
+            unreachable!()
+        };
+        pass.objects
+    }
 }
 
 impl<'w> Commons<'w> for Plain<'w> {
-    ghost use Rattle.std.specs.Prelude.{◌≡◌, [], ◌∷◌};
-    ghost use Rattle.abt_commons.specs.AllPasses.{AreAll};
-    ghost use Rattle.abt_commons.specs.Held.{ObjectsValue};
+    ghost use Rattle.std.specs.Prelude.{◌≡◌};
     ghost use Rattle.abt_commons.specs.Plains.{PlainMoves};
 
     type Pass = PlainPass<'w>;
@@ -68,24 +79,12 @@ impl<'w> Commons<'w> for Plain<'w> {
 
     ghost moves = { λ plain old x at act told new. PlainMoves old x at act told new };
 
-    ghost streams = { λ plain. 1 };
-
-    ghost leaves = { λ plain passes held. passes ≡ held ∷ [] };
-
     #[inline(always)]
     fn call(&self, pass: &mut PlainPass<'w>, site: Site, at: u64, act: Act) -> Reply {
         pass.objects.call(site, at, act)
     }
 
-    fn close(self, mut passes: Vec<PlainPass<'w>>) -> Objects<'w>
-        requires passes { AreAll (λ (pass : ObjectsValue). pass.workload ≡ self) (λ (pass : ObjectsValue). 0) 1 passes.items }
-        ensures leaves { passes.entry.items ≡ result ∷ [] }
-    {
-        let Some(pass) = passes.pop() else {
-            unreachable!()
-        };
-        pass.objects
-    }
+    fn rest(&self, _pass: &mut PlainPass<'w>) {}
 }
 
 impl<'w> Objects<'w> {

@@ -7,24 +7,32 @@ ghost use Rattle.abt_commons.specs.Splits.{HasSeenNothing, IsPassOf, SplitLeft, 
 
 use crate::acts::{Act, Reply};
 use crate::commons::Commons;
-use crate::locking::{lock_all, seatless};
+use crate::habits::Habits;
+use crate::locking::{lock_all, turnless};
 use crate::objects::Objects;
 use crate::one::One;
+use crate::owners::{Owner, first_owners};
 use crate::sites::site_number;
+use crate::turn::Turn;
 use crate::unlocking::unlocked;
-use abt_booth::{Booth, Called, Seat};
+use abt_booth::{Booth, Called};
 use abt_machine::{Site, Want, Workload};
 use std::alloc::Global;
 use std::marker::Model;
 use std::sync::Wait;
+use std::sync::atomic::AtomicU64;
 
 /// One lock for each object, with a clock for each.
 #[derive(Drop)]
 pub struct Split<'w, R> {
-    rt: &'w R,
+    pub(crate) rt: &'w R,
     w: &'w Workload,
     streams: u32,
-    booths: Vec<Booth<One<'w>>>,
+    pub(crate) booths: Vec<Booth<One<'w>>>,
+    // To which stream each lock belongs.
+    pub(crate) owners: Vec<Owner>,
+    // How often a stream had to wait for a turn that another one might keep.
+    pub(crate) wanted: AtomicU64,
     // The clocks that were carried to the locks.
     clocks: Vec<u64>,
     // Where the objects go when the locks are closed.
@@ -42,16 +50,16 @@ impl<'w, R> Model for Split<'w, R> {
     ghost invariant = { λ s. AreBooths s.w.now s.streams s.booths.items s.clocks.items × (s.room.items ≡ []) × (length s.booths.items ≤ vec_capacity s.room) };
 }
 
-/// The right of one stream to call: a seat of each lock.
+/// The right of one stream to call: the turn of each lock, taken or not.
 #[derive(Drop)]
 pub struct SplitPass<'w> {
     pub(crate) stream: u32,
-    pub(crate) seats: Vec<Seat<One<'w>>>,
+    pub(crate) turns: Vec<Turn<'w>>,
+    pub(crate) habits: Habits,
 }
 
 impl<'w, R: Wait> Commons<'w> for Split<'w, R> {
-    ghost use Rattle.abt_commons.specs.AllPasses.{AreAll};
-    ghost use Rattle.abt_commons.specs.Splits.{IsPassOf, SplitLeft, SplitMoves, pass_stream};
+    ghost use Rattle.abt_commons.specs.Splits.{IsPassOf, SplitMoves, pass_stream};
 
     type Pass = SplitPass<'w>;
 
@@ -63,34 +71,19 @@ impl<'w, R: Wait> Commons<'w> for Split<'w, R> {
 
     ghost moves = { λ split old x at act told new. SplitMoves split old x at act told new };
 
-    ghost streams = { λ split. split.streams };
-
-    ghost leaves = { λ split passes held. SplitLeft split passes held };
-
     #[inline(always)]
     fn call(&self, pass: &mut SplitPass<'w>, site: Site, at: u64, act: Act) -> Reply {
         let number = site_number(self.w, site);
         let raised = at.max(self.clocks[number]);
-        match self.booths[number].call(self.rt, &mut pass.seats[number], raised, act) {
+        self.heed(pass);
+        match self.call_at(&self.booths[number], pass, number, raised, act) {
             Called::Done { stamp, answer } => Reply::Done { stamp, answer },
             Called::Worn(act) => Reply::Worn(act),
         }
     }
 
-    fn close(self, mut passes: Vec<SplitPass<'w>>) -> Objects<'w>
-        requires passes { AreAll (IsPassOf self) pass_stream self.streams passes.items }
-        ensures leaves { SplitLeft self.entry passes.entry.items result }
-    {
-        let Split {
-            rt: _,
-            w,
-            streams: _,
-            booths,
-            clocks,
-            room,
-        } = self;
-        let (ones, clocks) = unlocked(booths, passes.as_mut_slice(), room, clocks);
-        Objects { w, ones, clocks }
+    fn rest(&self, pass: &mut SplitPass<'w>) {
+        self.give_all_back(pass);
     }
 }
 
@@ -113,7 +106,10 @@ impl<'w, R: Wait> Split<'w, R> {
         let Ok(mut booths) = Vec::with_capacity(alloc, count) else {
             return Err(objects);
         };
-        let Ok(mut passes) = seatless(alloc, streams, count) else {
+        let Ok(mut passes) = turnless(alloc, streams, count) else {
+            return Err(objects);
+        };
+        let Ok(owners) = first_owners(alloc, objects.w, count) else {
             return Err(objects);
         };
         let Objects {
@@ -138,10 +134,31 @@ impl<'w, R: Wait> Split<'w, R> {
                 w,
                 streams,
                 booths,
+                owners,
+                wanted: AtomicU64::new(0),
                 clocks,
                 room,
             },
             passes,
         ))
+    }
+
+    /// The objects, once no stream calls any longer. It waits for nobody, and takes no memory.
+    pub fn close(self, mut passes: Vec<SplitPass<'w>>) -> Objects<'w>
+        requires passes { AreAll (IsPassOf self) pass_stream self.streams passes.items }
+        ensures leaves { SplitLeft self.entry passes.entry.items result }
+    {
+        let Split {
+            rt: _,
+            w,
+            streams: _,
+            booths,
+            owners: _,
+            wanted: _,
+            clocks,
+            room,
+        } = self;
+        let (ones, clocks) = unlocked(booths, passes.as_mut_slice(), room, clocks);
+        Objects { w, ones, clocks }
     }
 }

@@ -3,14 +3,14 @@
 ghost use Rattle.std.specs.Prelude.{◌≡◌, ◌+◌, ◌<◌, ◌≤◌, length, max, slice_index, slice_set, vec_capacity};
 ghost use Rattle.std.specs.List.{All};
 ghost use Rattle.abt_booth.specs.Seats.{seats_of};
-ghost use Rattle.abt_commons.specs.Closing.{AllClosed, AllUnlocked, HaveSeats};
+ghost use Rattle.abt_commons.specs.Closing.{AllClosed, AllUnlocked, HaveTurns};
 
 use crate::gathering::closed;
 use crate::one::One;
 use crate::split::SplitPass;
 use abt_booth::{Booth, Closed};
 
-/// Closes all booths with the seats of the passes. Returns their objects in order, followed by those in the room, from its end on; and
+/// Closes all booths with the turns of the passes. Returns their objects in order, followed by those in the room, from its end on; and
 /// the clocks, each raised to the last stamp of its booth.
 pub(crate) fn unlocked<'w>(
     booths: Vec<Booth<One<'w>>>,
@@ -20,7 +20,7 @@ pub(crate) fn unlocked<'w>(
 ) -> (Vec<One<'w>>, Vec<u64>)
     requires some { 0 < length passes.old }
     requires seated { All (λ booth. seats_of booth ≡ length passes.old) booths.items }
-    requires seats { HaveSeats booths.items passes.old }
+    requires turns { HaveTurns booths.items passes.old }
     requires room { length room.items + length booths.items ≤ vec_capacity room }
     requires clocks { length booths.items ≤ length clocks.items }
     ensures { AllUnlocked booths.entry.items passes.old clocks.items room.entry.items result.0.items result.1.items }
@@ -40,7 +40,7 @@ fn unlock_all<'w>(
 )
     requires some { 0 < length passes.old }
     requires seated { All (λ booth. seats_of booth ≡ length passes.old) booths.items }
-    requires seats { HaveSeats booths.items passes.old }
+    requires turns { HaveTurns booths.items passes.old }
     requires room { length room.old.items + length booths.items ≤ vec_capacity room.old }
     requires clocks { length booths.items ≤ length clocks.old }
     ensures { AllClosed booths.entry.items passes.old clocks.old room.old.items room.new.items clocks.new }

@@ -1,4 +1,6 @@
 ghost use Rattle.std.specs.Prelude.{◌≡◌};
+ghost use Rattle.std.specs.List.{All};
+ghost use Rattle.abt_unit.specs.Fits.{Fits};
 
 mod asking;
 mod crossing;
@@ -6,8 +8,8 @@ mod players;
 mod rows;
 
 use self::crossing::{THREADS, are_held_once, play_on_threads};
-use self::players::play_all;
-use self::rows::{BARRIERS, DESKS, EVENTUALS, FUTURES, KINDS, MONITORS, POOLS, RWLOCKS};
+use self::players::{Heard, Request, play, play_all};
+use self::rows::{BARRIERS, DESKS, EVENTUALS, FIFO, FUTURES, KINDS, MONITORS, POOLS, RWLOCKS};
 use super::looked;
 use abt_chain::Chain;
 use abt_commons::{Commons, Hall, Objects, Plain, Split};
@@ -125,6 +127,56 @@ fn play_in_split<'w, R: Abort + Wait>(rt: &'w R, alloc: Global, objects: Objects
         panic!(rt; "no pass")
     };
     play_every_kind(rt, &split, &mut pass, w);
+}
+
+// Takes the next units of the FIFO pool, which have the numbers from `from` to before `end`, and rests.
+fn take_some<'w, C: Commons<'w>>(
+    rt: &impl Abort,
+    commons: &C,
+    pass: &mut C::Pass,
+    w: &Workload,
+    hand: &mut Chain,
+    from: u32,
+    end: u32,
+)
+    requires workload { C.workload commons.now ≡ w.now }
+    requires pass { C.is_of commons.now pass.old }
+    requires hand { All (Fits w.now) hand.old.units }
+    ensures pass { C.is_of commons.now pass.new }
+    ensures hand { All (Fits w.now) hand.new.units }
+{
+    for u in from..end {
+        let heard = play(commons, pass, w, hand, FIFO, Request::Take(Side::Front));
+        assert!(rt; heard == Some(Heard::Given(u)));
+    }
+    commons.rest(pass);
+}
+
+// Two passes of one thread take units from one pool in turns. The calls of each but the last are by a turn that it keeps.
+fn take_in_turns<'w, R: Abort + Wait>(rt: &'w R, alloc: Global, objects: Objects<'w>, w: &Workload)
+    requires { objects.workload ≡ w.now }
+{
+    let Ok((split, mut passes)) = Split::make(rt, alloc, objects, 2) else {
+        panic!(rt; "no memory")
+    };
+    let Some(mut second) = passes.pop() else {
+        panic!(rt; "no pass")
+    };
+    let Some(mut first) = passes.pop() else {
+        panic!(rt; "no pass")
+    };
+    let mut hand = Chain::new();
+    take_some(rt, &split, &mut first, w, &mut hand, 0, 3);
+    take_some(rt, &split, &mut second, w, &mut hand, 3, 5);
+    take_some(rt, &split, &mut first, w, &mut hand, 5, 6);
+}
+
+#[test]
+fn a_pass_that_rests_lets_others_call(rt: HostRuntime) -> Result<(), Fail> {
+    let w = workload_of(&rt, rt.alloc(), 7)?;
+    let objects = Objects::place(rt.alloc(), &w)?;
+    take_in_turns(&rt, rt.alloc(), objects, &w);
+    Ok(())
 }
 
 #[test]

@@ -12,7 +12,7 @@ ghost use Rattle.hall_waves.specs.HallLocks.{clock_of_hall, locks_of_hall};
 ghost use Rattle.abt_drain.specs.Ends.{IsLeftOf};
 ghost use Rattle.abt_drain.specs.Runs.{IsRunOf};
 
-use abt_commons::{Commons, Hall, HallPass, Objects};
+use abt_commons::{Hall, HallPass, Objects};
 use abt_drain::Run;
 use abt_machine::{Want, Workload};
 use abt_order::StoredOrder;
@@ -58,17 +58,19 @@ impl<'w, R: Wait> Locked for OneLock<'w, R> {
 
     ghost begins = { hall_begins };
 
-    fn turn<T: Wait, P: Work>(
+    fn turn<P: Work>(
         &self,
-        rt: &T,
         puts: &Puts,
         stream: &mut Stream,
         pass: &mut HallPass<'w>,
         w: &Workload,
         work: &P,
     ) -> Turn {
-        noted_turn(rt, &self.hall, puts, stream, pass, w, work)
+        noted_turn(&self.hall, puts, stream, pass, w, work)
     }
+
+    #[inline(always)]
+    fn rest(&self, _pass: &mut HallPass<'w>) {}
 }
 
 impl<'w, R: Wait> Locking<'w, R> for OneLock<'w, R> {

@@ -121,6 +121,7 @@ fn work<'w, R: Abort + Wait, C: Commons<'w>>(
         FIFO,
         Request::Take(Side::Front),
     );
+    commons.rest(pass);
     hand.drain_into(&mut kept.lock(rt));
 }
 

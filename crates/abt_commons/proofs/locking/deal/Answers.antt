@@ -17,6 +17,6 @@ loop-seat-preserved c =
     let split : c.args.seats.items ≡ (now ++ seat ∷ []) ++ inv.1.0 = inv.1.1 ∙ ap (λ xs. xs ++ inv.1.0) popped in (
       less,
       (seat ∷ inv.1.0, split ∙ append_assoc now (seat ∷ []) inv.1.0),
-      got-last c.args.booth.now c.args.passes.now c.loop-seat.passes c.args.seats.items now inv.1.0 seat (left - 1) c.index-passes-left.result c.give.new.pass c.requires.seats split c.requires.many less
-          (subst (λ n. HaveGot c.args.booth.now n c.args.passes.now c.loop-seat.passes) more inv.2) c.give.ensures.stream c.give.ensures.seats c.give.ensures.room,
+      got-last c.args.booth.now c.args.passes.now c.loop-seat.passes c.args.seats.items now inv.1.0 seat c.new.result (left - 1) c.index-passes-left.result c.give.new.pass c.requires.seats split c.requires.many less
+          (subst (λ n. HaveGot c.args.booth.now n c.args.passes.now c.loop-seat.passes) more inv.2) (c.new.ensures.booth c.args.booth.now) c.new.ensures.number c.new.ensures.seen c.give.ensures.stream c.give.ensures.turns c.give.ensures.room,
     )

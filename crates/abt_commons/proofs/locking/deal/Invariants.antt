@@ -1,7 +1,7 @@
 -- The passes from a number on have got their seats, and those of the others are left.
 use Rattle.std.proofs.Common.{◌≡◌, List, ◌++◌, length, vec_len}
 use Rattle.abt_commons.specs.Locking.{HaveGot}
-use Rattle.abt_commons.specs.Parting.{SiteSeat}
+use Rattle.abt_commons.proofs.Dealing.{SiteSeat}
 use Rattle.abt_commons.proofs.locking.deal.Given as goal
 
 abbrev pub invariant-loop-seat : goal.invariant-loop-seat

@@ -12,7 +12,7 @@ loop-booth-init c = record {
   objects = [];
   ended = none-ended c.args.booths.items c.args.passes.now c.args.clocks.now;
   put = sym (append-nil c.args.room.now.items);
-  remain = remain-all c.args.booths.items c.args.passes.now c.requires.seats;
+  remain = remain-all c.args.booths.items c.args.passes.now c.requires.turns;
   place = c.requires.room;
 }
 
@@ -22,13 +22,13 @@ closed-object-requires-clause-count c =
     let split = inv.split ∙ ap (λ xs. xs ++ inv.gone) c.in-Some.ensures.items in
     same-count c.args.booths.items c.pop.new.self.items inv.gone c.in-Some.booth (length c.args.passes.now) split c.requires.seated ∙ sym inv.remain.many
 
-pub closed-object-requires-clause-seats : goal.closed-object-requires-clause-seats
-closed-object-requires-clause-seats c =
+pub closed-object-requires-clause-turns : goal.closed-object-requires-clause-turns
+closed-object-requires-clause-turns c =
     let inv = c.loop-booth.invariant in
     let left = c.pop.new.self.items in
     let split = inv.split ∙ ap (λ xs. xs ++ inv.gone) c.in-Some.ensures.items in
     let fewer : length c.loop-booth.booths.items ≡ length left + 1 = ap length c.in-Some.ensures.items ∙ length-append left (c.in-Some.booth ∷ []) in
-    ends-as c.args.booths.items c.args.passes.now c.requires.seats left inv.gone c.in-Some.booth split c.loop-booth.passes (subst (λ n. Remain n c.args.passes.now c.loop-booth.passes) fewer inv.remain)
+    ends-as c.args.booths.items c.args.passes.now c.requires.turns left inv.gone c.in-Some.booth split c.loop-booth.passes (subst (λ n. Remain n c.args.passes.now c.loop-booth.passes) fewer inv.remain)
 
 pub loop-booth-preserved : goal.loop-booth-preserved
 loop-booth-preserved c =
@@ -52,10 +52,10 @@ loop-booth-preserved c =
       split = split ∙ append_assoc left (booth ∷ []) inv.gone;
       objects = object ∷ inv.objects;
       ended = subst (λ cs. WereClosed booths passes c.args.clocks.now (length left) (object ∷ inv.objects) cs) (sym clocks)
-          (closed-more booths passes c.requires.seats left inv.gone booth split c.loop-booth.passes remain c.closed-object.new.passes object c.closed-object.result.clock c.closed-object.ensures
+          (closed-more booths passes c.requires.turns left inv.gone booth split c.loop-booth.passes remain c.closed-object.new.passes object c.closed-object.result.clock c.closed-object.ensures
           c.args.clocks.now inv.objects c.loop-booth.clocks ended c.requires.clocks c.requires.some count raised refl);
       put = c.push_reserved.ensures.items ∙ (ap (λ xs. xs ++ object ∷ []) inv.put ∙ (append_assoc c.args.room.now.items (reverse inv.objects) (object ∷ []) ∙ ap (λ xs. c.args.room.now.items ++ xs) (sym (reverse-append (object ∷ []) inv.objects))));
-      remain = remain-less booths passes c.requires.seats left inv.gone booth split c.loop-booth.passes remain c.closed-object.new.passes object c.closed-object.result.clock c.closed-object.ensures;
+      remain = remain-less booths passes c.requires.turns left inv.gone booth split c.loop-booth.passes remain c.closed-object.new.passes object c.closed-object.result.clock c.closed-object.ensures;
       place =
           (let more : length c.push_reserved.new.self.items ≡ length c.loop-booth.room.items + 1 = ap length c.push_reserved.ensures.items ∙ length-append c.loop-booth.room.items (object ∷ []) in
           let old = inv.place in

@@ -1,4 +1,4 @@
--- The last booths are closed, and the passes have the seats of the others.
+-- The last booths are closed, and the passes have the turns of the others.
 use Rattle.std.proofs.Common.{◌≡◌, ◌+◌, ◌≤◌, List, ◌++◌, reverse, length, vec_capacity, vec_len}
 use Rattle.abt_booth.specs.declared.booth.Booth.{Booth}
 use Rattle.abt_commons.specs.declared.acts.Act.{Act}

@@ -42,7 +42,7 @@ unlocked-ones-requires-clause-room g c =
 -- the objects and the clocks that come back are those that came
 module _ (g : _) (c : After-unlocked-ones g) (whole : map opening_of c.lock_all.new.booths.items ++ reverse c.lock_all.new.room.items ≡ c.objects.inside.ones.items) where
   seats : c.as_mut_slice-in-Err.result.now ≡ c.lock_all.new.passes
-  seats = c.as_mut_slice-in-Err.ensures.value ∙ with_items_is c.in-Ok-seatless.passes c.lock_all.new.passes (c.lock_all.ensures.dealt.many ∙ (sym c.in-Ok-seatless.ensures.many ∙ sym c.in-Ok-seatless.passes.ok.0))
+  seats = c.as_mut_slice-in-Err.ensures.value ∙ with_items_is c.in-Ok-turnless.passes c.lock_all.new.passes (c.lock_all.ensures.dealt.many ∙ (sym c.in-Ok-turnless.ensures.many ∙ sym c.in-Ok-turnless.passes.ok.0))
 
   ended : AllUnlocked c.lock_all.new.booths.items c.lock_all.new.passes c.objects.inside.clocks.items c.lock_all.new.room.items c.unlocked-ones.result.0.items c.unlocked-ones.result.1.items
   ended = subst (λ ps. AllUnlocked c.lock_all.new.booths.items ps c.objects.inside.clocks.items c.lock_all.new.room.items c.unlocked-ones.result.0.items c.unlocked-ones.result.1.items) seats

@@ -6,7 +6,7 @@ use Rattle.abt_booth.proofs.Seats.{all-seats}
 use Rattle.abt_commons.specs.AllPasses.{AreAll}
 use Rattle.abt_commons.specs.Halls.{HallLeft, HallValue}
 use Rattle.abt_commons.proofs.HallSights.{hall-left}
-use Rattle.abt_commons.proofs.hall.HallCommons.close.Goals as goal
+use Rattle.abt_commons.proofs.hall.Hall.close.Goals as goal
 
 pub close-closed-requires : goal.close-closed-requires
 close-closed-requires g c =

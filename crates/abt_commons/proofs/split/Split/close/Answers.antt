@@ -6,8 +6,8 @@ use Rattle.abt_commons.specs.Closing.{WereClosed}
 use Rattle.abt_commons.specs.Held.{objects_value}
 use Rattle.abt_commons.specs.Splits.{IsPassOf, SplitLeft, SplitValue, pass_stream}
 use Rattle.abt_commons.proofs.SplitLefts.{left-split, left-whole}
-use Rattle.abt_commons.proofs.split.SplitCommons.close.Goals.{After-unlocked-ones}
-use Rattle.abt_commons.proofs.split.SplitCommons.close.Goals as goal
+use Rattle.abt_commons.proofs.split.Split.close.Goals.{After-unlocked-ones}
+use Rattle.abt_commons.proofs.split.Split.close.Goals as goal
 
 module _ (g : _) (c : After-unlocked-ones g) where
   abbrev split : SplitValue
