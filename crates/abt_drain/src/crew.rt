@@ -15,7 +15,7 @@ use crate::outcomes::outcome;
 use crate::pictures::picture;
 use crate::run::Run;
 use crate::streams::{Rests, leave, start_streams};
-use abt_commons::{Commons, Objects, Plain, PlainPass};
+use abt_commons::{Objects, Plain, PlainPass};
 use abt_machine::{Outcome, Want, Workload};
 use abt_order::StoredOrder;
 use abt_stream::{Stream, Turn};

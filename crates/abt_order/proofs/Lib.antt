@@ -4,3 +4,4 @@ pub mod Ordered
 pub mod PoolNumbers
 pub mod Stealing
 pub mod RoundOrders
+pub mod FixedOrders

@@ -1,5 +1,5 @@
 -- What contracts see of a stream.
-use Rattle.std.specs.Prelude.{ℕ, suc, ◌≡◌, ◌≢◌, ◌<◌, ◌≤◌, ⊤, Bool, List, [], ◌∷◌, length, map, reverse, Option, Some, None, Box, IsPermutation}
+use Rattle.std.specs.Prelude.{ℕ, suc, ◌≡◌, ◌≢◌, ◌<◌, ◌≤◌, ⊤, Bool, true, false, List, [], ◌∷◌, length, map, reverse, Option, Some, None, Box, IsPermutation}
 use Rattle.std.specs.List.{All}
 use Rattle.std.specs.declared.alloc.Global.{Global}
 use Rattle.abt_machine.specs.declared.events.Event.{Event}
@@ -27,6 +27,21 @@ pub record FrameValue : Type 0 where
   pub scheduler : SchedulerValue
   pub round : ℕ
   pub empty : Bool
+
+-- the order that is held: the list, if its round has begun
+abbrev pub order_of : Bool → List PoolNo → List PoolNo
+order_of true list = list
+order_of false list = []
+
+-- a round that has begun has a pool
+abbrev pub IsBegun : Bool → List PoolNo → Type 0
+IsBegun true list = list ≢ []
+IsBegun false list = ⊤
+
+-- a list that stands is the one that the scheduler remembers
+abbrev pub IsStanding : Bool → SchedulerValue → List PoolNo → Type 0
+IsStanding true s list = s.fixed ≡ Some list
+IsStanding false s list = ⊤
 
 -- room for events, for frames and their units, and for output of the unit in hand
 pub record Rooms : Type 0 where

@@ -1,9 +1,11 @@
 -- What a turn is.
-use Rattle.std.specs.Prelude.{ℕ, suc, ◌≡◌, ◌≢◌, ◌<◌, ◌^◌, ◌⊎◌, ⊤, true, [], ◌∷◌, ◌++◌, length, Option, Some, None, IsSome}
+use Rattle.std.specs.Prelude.{ℕ, suc, ◌≡◌, ◌≢◌, ◌<◌, ◌^◌, ◌+◌, ◌⊎◌, ⊤, true, List, [], ◌∷◌, ◌++◌, length, Option, Some, None, IsPermutation, IsSome}
 use Rattle.abt_machine.specs.declared.events.Site.{Site}
 use Rattle.abt_machine.specs.declared.events.What.{What}
 use Rattle.abt_machine.specs.declared.events.What.TheVariants as what
 use Rattle.abt_machine.specs.declared.numbers.PoolNo.{PoolNo}
+use Rattle.abt_machine.specs.declared.operations.OrderShape.{OrderShape}
+use Rattle.abt_machine.specs.Rounds.{IsOrder}
 use Rattle.abt_machine.specs.Stored.{Stored}
 use Rattle.abt_machine.specs.declared.workload.Parts.{Parts}
 use Rattle.abt_machine.specs.Acts.{Act, Answer}
@@ -13,6 +15,7 @@ use Rattle.abt_machine.specs.Turns.{Heard, Steps, due_of}
 use Rattle.abt_machine.specs.Values.{Held}
 use Rattle.abt_machine.specs.Workloads.{pools_of}
 use Rattle.abt_commons.specs.Replies.{Told, Done, Worn}
+use Rattle.abt_order.specs.Schedulers.{IsSchedulerOf, pool_numbers}
 use Rattle.abt_stream.specs.declared.turns.Turn.{Turn}
 use Rattle.abt_stream.specs.declared.turns.Turn.TheVariants as turn
 use Rattle.abt_stream.specs.Streams.{StreamValue}
@@ -72,19 +75,33 @@ Turned moves W Z old before turn.Moved new after = (w : What) × Made moves W Z 
 Turned moves W Z old before turn.Spent new after = IsSpent W old × (new ≡ old) × (after ≡ before)
 Turned moves W Z old before turn.Worn new after = (new ≡ old) × MetEnd moves W Z old before after × (IsSpent W old → ⊥)
 
--- there is room for one event, for one frame and its unit, and for one piece of output of the unit in hand
+-- there is room for what the unit in hand may need: one frame and its unit, and one piece of output
+pub record HasHandRoom (s : StreamValue) : Type 0 where
+  pub frames : 0 < s.rooms.frames
+  pub units : 0 < s.rooms.units
+  pub output : 0 < s.rooms.output
+
+-- there is room for one event, and for what the unit in hand may need
 abbrev pub HasRoom : StreamValue → Type 0
-HasRoom s = (0 < s.rooms.events) × (0 < s.rooms.frames) × (0 < s.rooms.units) × (IsSome s.held.hand → 0 < s.rooms.output)
+HasRoom s = (0 < s.rooms.events) × (IsSome s.held.hand → HasHandRoom s)
 
 -- the stream has what one turn needs
 pub record IsReady (W : Parts) (s : StreamValue) : Type 0 where
   pub events : 0 < s.rooms.events
-  pub frames : 0 < s.rooms.frames
-  pub units : 0 < s.rooms.units
-  pub output : IsSome s.held.hand → 0 < s.rooms.output
+  pub hand : IsSome s.held.hand → HasHandRoom s
   pub order : due_of W s.number.0 s.held ≡ RoundDue → s.order ≢ []
   pub few : length s.log < 2 ^ 55
 
 -- all is as it was, except room, and the order and the scheduler of the round that is to come
 abbrev pub IsPrepared : StreamValue → StreamValue → Type 0
 IsPrepared old new = new ≡ record old { top = record old.top { scheduler = new.top.scheduler }; order = new.order; rooms = new.rooms }
+
+-- the order of the next round is held, and the top frame's scheduler is before the round after that
+pub record HoldsNext (W : Parts) (Z : List OrderShape) (old new : StreamValue) : Type 0 where
+  pub order : IsOrder W Z old.top.scheduler.number old.top.scheduler.round (pool_numbers new.order)
+  pub permutes : IsPermutation (pools_of W old.top.scheduler.number) (pool_numbers new.order)
+  pub number : new.top.scheduler.number ≡ old.top.scheduler.number
+  pub next : new.top.scheduler.round ≡ old.top.scheduler.round + 1
+  pub scheduler : IsSchedulerOf W new.top.scheduler
+  pub some : new.order ≢ []
+  pub same : IsPrepared old new

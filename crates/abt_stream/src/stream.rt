@@ -64,6 +64,10 @@ pub struct Stream {
     below: Vec<Frame>,
     framed: Vec<Box<Unit>>,
     order: Vec<PoolNo>,
+    // Whether the round of that list has begun.
+    begun: bool,
+    // Whether it is the list of all rounds of the top frame's scheduler.
+    stands: bool,
     at: usize,
     log: Record,
     written: u64,
@@ -74,7 +78,7 @@ impl Model for Stream {
     ghost use Rattle.std.specs.List.{All};
     ghost use Rattle.abt_machine.specs.Outcomes.{steps_in};
     ghost use Rattle.abt_commons.specs.Acts.{owned};
-    ghost use Rattle.abt_stream.specs.Streams.{IsFreeUnit, IsLog, IsOrderly, StreamValue, behind_of, hand_of, next_of, own_of, spare_of};
+    ghost use Rattle.abt_stream.specs.Streams.{IsBegun, IsFreeUnit, IsLog, IsOrderly, IsStanding, StreamValue, behind_of, hand_of, next_of, order_of, own_of, spare_of};
 
     ghost Value = { StreamValue };
 
@@ -84,7 +88,7 @@ impl Model for Stream {
       budget = s.budget;
       clock = s.clock;
       held = record {
-        own = own_of s.mark s.top (take s.at s.order.items) s.below.items;
+        own = own_of s.mark s.top (take s.at (order_of s.begun s.order.items)) s.below.items;
         hand = hand_of s.current;
         next = next_of s.current;
         tray = s.tray.units;
@@ -92,7 +96,7 @@ impl Model for Stream {
       };
       top = s.top;
       below = s.below.items;
-      order = s.order.items;
+      order = order_of s.begun s.order.items;
       at = s.at;
       log = s.log.events;
       rooms = record {
@@ -104,8 +108,9 @@ impl Model for Stream {
     } };
 
     ghost invariant = { λ s. (behind_of s.current ≡ []) × All IsFreeUnit s.framed.items × (length s.framed.items ≡ length s.below.items)
-        × (s.at ≤ length s.order.items - 1) × IsOrderly s.order.items s.current × IsLog s.number s.clock s.log.events × (s.clock ≤ 2 ^ 62)
-        × (s.left + steps_in s.log.events ≡ s.budget) × (s.written ≡ length s.log.events) × (s.written ≤ s.clock) };
+        × (s.at ≤ length (order_of s.begun s.order.items) - 1) × IsOrderly (order_of s.begun s.order.items) s.current × IsLog s.number s.clock s.log.events × (s.clock ≤ 2 ^ 62)
+        × (s.left + steps_in s.log.events ≡ s.budget) × (s.written ≡ length s.log.events) × (s.written ≤ s.clock)
+        × IsStanding s.stands s.top.scheduler s.order.items × IsBegun s.begun s.order.items };
 }
 
 impl Stream {
@@ -146,6 +151,8 @@ impl Stream {
             below: Vec::new(alloc),
             framed: Vec::new(alloc),
             order: Vec::new(alloc),
+            begun: false,
+            stands: false,
             at: 0,
             log: Record::new(alloc, keeps),
             written: 0,

@@ -82,7 +82,8 @@ impl Stream {
                 Some(unit) => {
                     let number = name(&unit);
                     self.top = frame;
-                    self.order.clear();
+                    self.begun = false;
+                    self.stands = false;
                     self.at = 0;
                     self.mark = Mark::Left;
                     self.current = Current::Running(unit);
@@ -178,10 +179,10 @@ impl Stream {
         ensures same { self.new ≡ wrote (took self.old unit.value.owned) (what.Take p (unit_no unit.value.owned.number)) stamp self.new.rooms }
     {
         let number = name(&unit);
-        self.current = Current::Taken(unit);
+        self.current.fill(Current::Taken(unit));
         self.top.round += 1;
         self.top.empty = false;
-        self.order.clear();
+        self.begun = false;
         self.at = 0;
         self.write(stamp, What::Take(p, number));
     }
@@ -213,7 +214,7 @@ impl Stream {
     {
         self.top.round += 1;
         self.top.empty = true;
-        self.order.clear();
+        self.begun = false;
         self.at = 0;
         self.write(stamp, What::Miss(p));
     }

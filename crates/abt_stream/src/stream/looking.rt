@@ -84,7 +84,7 @@ impl Stream {
     {
         if asks.cancel {
             self.mark = Mark::Asked;
-            self.current = Current::Running(unit);
+            self.current.fill(Current::Running(unit));
         } else {
             match asks.migrate {
                 Some(p) => {
@@ -93,7 +93,7 @@ impl Stream {
                 }
                 None => {
                     self.mark = Mark::Plain;
-                    self.current = Current::Running(unit);
+                    self.current.fill(Current::Running(unit));
                 }
             }
         }

@@ -1,11 +1,9 @@
 //! The memory that a turn needs.
 
-ghost use Rattle.std.specs.Prelude.{◌≡◌, ◌<◌, ◌+◌, ◌^◌, ◌↔◌, ℕ, [], List, OnOk, OnErr, IsSome, Option, false, ◌⊎◌, IsTrue, length, ◌≢◌, IsPermutation};
+ghost use Rattle.std.specs.Prelude.{◌≡◌, ◌<◌, ◌+◌, ◌^◌, ◌↔◌, ℕ, [], List, OnOk, OnErr, IsSome, Option, false, ◌⊎◌, IsTrue, length, ◌≢◌};
 ghost use Rattle.abt_stream.specs.Streams.{FitsShapes, FitsStream, IsIdle};
-ghost use Rattle.abt_stream.specs.Turned.{HasRoom, IsPrepared, IsReady};
-ghost use Rattle.abt_machine.specs.Rounds.{IsOrder};
-ghost use Rattle.abt_machine.specs.Workloads.{pools_of};
-ghost use Rattle.abt_order.specs.Schedulers.{IsSchedulerOf, IsStored, pool_numbers};
+ghost use Rattle.abt_stream.specs.Turned.{HasHandRoom, HasRoom, HoldsNext, IsPrepared, IsReady};
+ghost use Rattle.abt_order.specs.Schedulers.{IsSchedulerOf, IsStored};
 ghost use Rattle.abt_machine.specs.Valid.{IsValid};
 
 use super::Stream;
@@ -16,8 +14,8 @@ use abt_order::StoredOrder;
 impl Stream {
     ghost use Rattle.abt_order.specs.Stored.{shapes_of, stored_of};
 
-    /// Takes what one turn needs: room for one event, for one frame, and for one piece of output of the unit in hand, and the
-    /// next round's order, if the next event starts a round and none is held.
+    /// Takes what one turn needs: room for one event, and for a frame and one piece of output if there is a unit in hand, and
+    /// the next round's order, if the next event starts a round and none is held.
     #[inline(always)]
     pub fn prepare(&mut self, w: &Workload, orders: &[StoredOrder]) -> Result<(), Want>
         requires stored { (g : ℕ) → IsStored w.now g (length orders.now) }
@@ -49,16 +47,13 @@ impl Stream {
         self.tray.is_empty()
             && matches!(&self.current, Current::Idle)
             && (!self.top.empty || self.below.is_empty())
-            && self.order.is_empty()
+            && !self.begun
     }
 
-    // Room for one event, one frame and its unit, and one piece of output, which is there in nearly every turn.
+    // Room for one event, and for what the unit in hand may need, which is there in nearly every turn.
     #[inline(always)]
     fn make_room(&mut self) -> Result<(), Want>
-        ensures events { OnOk result (0 < self.new.rooms.events) }
-        ensures frames { OnOk result (0 < self.new.rooms.frames) }
-        ensures units { OnOk result (0 < self.new.rooms.units) }
-        ensures output { OnOk result (IsSome self.new.held.hand → 0 < self.new.rooms.output) }
+        ensures room { OnOk result (HasRoom self.new) }
         ensures same { self.new ≡ record self.old { rooms = self.new.rooms } }
     {
         if self.has_room() {
@@ -72,19 +67,20 @@ impl Stream {
     fn has_room(&self) -> bool
         ensures { IsTrue result → HasRoom self.now }
     {
-        !self.log.is_full()
-            && self.below.len() < self.below.capacity()
-            && self.framed.len() < self.framed.capacity()
-            && self.has_output_room()
+        !self.log.is_full() && self.has_hand_room()
     }
 
-    // Whether there is room for one more piece of output of the unit in hand, if there is one.
+    // Whether there is room for a frame and its unit, and for one more piece of output, if there is a unit in hand.
     #[inline(always)]
-    fn has_output_room(&self) -> bool
-        ensures { IsTrue result → IsSome self.now.held.hand → 0 < self.now.rooms.output }
+    fn has_hand_room(&self) -> bool
+        ensures { IsTrue result → IsSome self.now.held.hand → HasHandRoom self.now }
     {
         match &self.current {
-            Current::Running(unit) => unit.has_room(),
+            Current::Running(unit) => {
+                unit.has_room()
+                    && self.below.len() < self.below.capacity()
+                    && self.framed.len() < self.framed.capacity()
+            }
             Current::Taken(_) | Current::Idle => true,
         }
     }
@@ -105,8 +101,9 @@ impl Stream {
         Ok(())
     }
 
-    // The next round's order.
+    // The next round's order, which is made only if the list of the round before does not stand.
     #[tactic(auto, using(crate::proofs::Rounding::ordered_some))]
+    #[inline(always)]
     fn order_round(&mut self, w: &Workload, orders: &[StoredOrder]) -> Result<(), Want>
         requires valid { IsValid w.now }
         requires stored { IsStored w.now self.old.top.scheduler.number (length orders.now) }
@@ -114,18 +111,37 @@ impl Stream {
         requires few { self.old.top.scheduler.round + 1 < 2 ^ 64 }
         requires order { self.old.order ≡ [] }
         requires idle { IsIdle self.old }
-        ensures order { OnOk result (IsOrder w.now (shapes_of orders.now) self.old.top.scheduler.number self.old.top.scheduler.round (pool_numbers self.new.order)) }
-        ensures permutes { OnOk result (IsPermutation (pools_of w.now self.old.top.scheduler.number) (pool_numbers self.new.order)) }
-        ensures number { OnOk result (self.new.top.scheduler.number ≡ self.old.top.scheduler.number) }
-        ensures next { OnOk result (self.new.top.scheduler.round ≡ self.old.top.scheduler.round + 1) }
-        ensures scheduler { OnOk result (IsSchedulerOf w.now self.new.top.scheduler) }
-        ensures some { OnOk result (self.new.order ≢ []) }
+        ensures next { OnOk result (HoldsNext w.now (shapes_of orders.now) self.old self.new) }
         ensures held { self.new.held ≡ self.old.held }
-        ensures same { OnOk result (IsPrepared self.old self.new) }
+        ensures rooms { self.new.rooms ≡ self.old.rooms }
+        ensures err { OnErr result (self.new ≡ self.old) }
+    {
+        if !self.stands {
+            return self.list_round(w, orders);
+        }
+        self.top.scheduler.round_again(w);
+        self.begun = true;
+        Ok(())
+    }
+
+    // The next round's order, in the memory of an earlier one.
+    #[tactic(auto, using(crate::proofs::Rounding::ordered_some))]
+    #[inline(never)]
+    fn list_round(&mut self, w: &Workload, orders: &[StoredOrder]) -> Result<(), Want>
+        requires valid { IsValid w.now }
+        requires stored { IsStored w.now self.old.top.scheduler.number (length orders.now) }
+        requires scheduler { IsSchedulerOf w.now self.old.top.scheduler }
+        requires few { self.old.top.scheduler.round + 1 < 2 ^ 64 }
+        requires order { self.old.order ≡ [] }
+        requires idle { IsIdle self.old }
+        ensures next { OnOk result (HoldsNext w.now (shapes_of orders.now) self.old self.new) }
+        ensures held { self.new.held ≡ self.old.held }
         ensures rooms { self.new.rooms ≡ self.old.rooms }
         ensures err { OnErr result (self.new ≡ self.old) }
     {
         self.top.scheduler.round_into(w, orders, &mut self.order)?;
+        self.stands = self.top.scheduler.is_fixed();
+        self.begun = true;
         Ok(())
     }
 }

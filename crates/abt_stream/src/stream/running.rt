@@ -61,9 +61,12 @@ impl Stream {
                 if !self.may_step() {
                     return Turn::Spent;
                 }
-                self.announce(work);
+                self.announce(commons, pass, work);
                 match called(op) {
-                    Some(function) => self.call(work, function),
+                    Some(function) => {
+                        commons.rest(pass);
+                        self.call(work, function)
+                    }
                     None => self.operate(commons, pass, w, op),
                 }
             }
@@ -155,6 +158,7 @@ impl Stream {
                     empty: false,
                 };
                 self.below.push_reserved(mem::replace(&mut self.top, frame));
+                self.stands = false;
                 self.framed.push_reserved(unit);
                 self.write(self.clock + 1, What::Enter(number));
                 Turn::Moved
@@ -188,11 +192,16 @@ impl Stream {
         self.step(commons, pass, w, plan, op)
     }
 
-    // The step is about to come.
+    // The step is about to come. Where that is told to the user, the pass rests before.
     #[inline(always)]
-    fn announce<P: Work>(&self, work: &P)
-        requires { IsSome self.now.held.hand }
+    fn announce<'w, C: Commons<'w>, P: Work>(&self, commons: &C, pass: &mut C::Pass, work: &P)
+        requires hand { IsSome self.now.held.hand }
+        requires pass { C.is_of commons.now pass.old }
+        ensures same { pass.new ≡ pass.old }
     {
+        if work.watches() {
+            commons.rest(pass);
+        }
         match &self.current {
             Current::Running(unit) => {
                 work.before_step(self.number, unit.number(), unit.position());

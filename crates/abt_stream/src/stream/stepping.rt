@@ -45,7 +45,7 @@ impl Stream {
         }
         let (mut unit, number, at) = running(mem::replace(&mut self.current, Current::Idle));
         unit.step_local(w);
-        self.current = Current::Running(unit);
+        self.current.fill(Current::Running(unit));
         self.write_step(self.clock + 1, number, at, Code::Ok);
         Turn::Stepped
     }
@@ -169,7 +169,7 @@ impl Stream {
     {
         let (mut unit, number, at) = running(mem::replace(&mut self.current, Current::Idle));
         let code = hearing::hear(&mut unit, &mut self.tray, answer);
-        self.current = Current::Running(unit);
+        self.current.fill(Current::Running(unit));
         self.write_step(stamp, number, at, code);
     }
 
@@ -245,7 +245,7 @@ impl Stream {
         match commons.call(pass, site, self.clock, act) {
             Reply::Done { stamp, answer } => {
                 let (current, code) = hearing::returned(giving, &mut self.tray, answer);
-                self.current = current;
+                self.current.fill(current);
                 self.write_step(stamp, number, at, code);
                 Turn::Stepped
             }

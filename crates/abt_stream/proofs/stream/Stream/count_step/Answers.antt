@@ -26,4 +26,6 @@ invariant_of-self c =
       subst (λ (log : List Event). (c.self.inside.left - 1) + steps_in log ≡ c.self.inside.budget) (sym c.push.ensures.events) fewer,
       many-more c.self.inside.written c.self.inside.log.events _ e c.self.invariant.8 c.push.ensures.events,
       higher,
+      c.self.invariant.10,
+      c.self.invariant.11,
     )

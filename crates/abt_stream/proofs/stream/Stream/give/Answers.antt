@@ -3,7 +3,7 @@ use Rattle.abt_machine.specs.declared.numbers.PoolNo.{PoolNo}
 use Rattle.abt_unit.specs.Units.{UnitValue}
 use Rattle.abt_stream.specs.declared.parts.Current.{Current}
 use Rattle.abt_stream.specs.declared.parts.Current.TheVariants as currents
-use Rattle.abt_stream.specs.Streams.{IsOrderly}
+use Rattle.abt_stream.specs.Streams.{IsOrderly, behind_of, order_of}
 use Rattle.abt_stream.proofs.stream.Stream.give.Goals as goal
 
 -- no order is held while a unit is in hand, so none is held after it
@@ -13,15 +13,18 @@ orderly (p ∷ ps) unit w h = absurd h
 
 pub invariant_of-self : goal.invariant_of-self
 invariant_of-self g c =
-    let held : c.self.inside.current ≡ currents.Running c.running-unit.result.0 = sym c.replace.ensures.value ∙ c.running-unit.ensures.unit in (
-      c.returned-current.ensures.free,
+    let held : c.self.inside.current ≡ currents.Running c.running-unit.result.0 = sym c.replace.ensures.value ∙ c.running-unit.ensures.unit in
+    let order : List PoolNo = order_of c.self.inside.begun c.self.inside.order.items in (
+      subst (λ (w : Current). behind_of w ≡ []) (sym c.fill.ensures) c.returned-current.ensures.free,
       c.self.invariant.1,
       c.self.invariant.2,
       c.self.invariant.3,
-      orderly c.self.inside.order.items c.running-unit.result.0 c.returned-current.result.0 (subst (IsOrderly c.self.inside.order.items) held c.self.invariant.4),
+      orderly order c.running-unit.result.0 c.fill.new.self (subst (IsOrderly order) held c.self.invariant.4),
       c.self.invariant.5,
       c.self.invariant.6,
       c.self.invariant.7,
       c.self.invariant.8,
       c.self.invariant.9,
+      c.self.invariant.10,
+      c.self.invariant.11,
     )

@@ -23,4 +23,6 @@ invariant_of-self c =
       ap (λ (log : List Event). c.self.inside.left + steps_in log) c.push.ensures.events ∙ (ap (λ n. c.self.inside.left + n) count ∙ c.self.invariant.7),
       many-more c.self.inside.written c.self.inside.log.events _ e c.self.invariant.8 c.push.ensures.events,
       higher,
+      c.self.invariant.10,
+      c.self.invariant.11,
     )
