@@ -38,7 +38,7 @@ Record-send : IsSend Record.the_row
 Record-send = search (sendable, crosses, Event-send) depth 60 fits 20000
 
 Scheduler-send : IsSend Scheduler.the_row
-Scheduler-send = search sendable depth 60 fits 20000
+Scheduler-send = search (sendable, crosses) depth 60 fits 20000
 
 Frame-send : IsSend Frame.the_row
 Frame-send = search (sendable, Scheduler-send) depth 30

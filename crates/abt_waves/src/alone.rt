@@ -1,4 +1,4 @@
-//! What a stream does while no other one has anything to do.
+//! What streams do on the caller's thread: one that alone has anything to do, or several that only hand work to each other.
 
 ghost use Rattle.std.specs.Prelude.{◌≡◌, ◌<◌, ◌≤◌, ◌^◌, IfOk, IfSome, OnOk, length, true};
 ghost use Rattle.abt_machine.specs.Outcomes.{steps_in};
@@ -11,7 +11,7 @@ ghost use Rattle.abt_waves.specs.Staying.{BeginsAnew, MayEnd, StaysCrew};
 
 use crate::listing::{Listing, bit};
 use crate::puts::{Puts, noted_turn};
-use abt_commons::{Commons, Objects, Plain, PlainPass};
+use abt_commons::{Objects, Plain, PlainPass};
 use abt_drain::has_empty_pools;
 use abt_machine::{StreamNo, Want, Workload};
 use abt_order::StoredOrder;
@@ -29,6 +29,22 @@ pub(crate) fn find_alone<'w>(w: &Workload, objects: &Objects<'w>, streams: &[Str
     match first_with_work(w, objects, streams, s.saturating_add(1)) {
         None => Some(s),
         Some(_) => None,
+    }
+}
+
+/// The first stream from this one on that has anything to do, or else the first of all.
+pub(crate) fn next_with_work<'w>(
+    w: &Workload,
+    objects: &Objects<'w>,
+    streams: &[Stream],
+    from: u32,
+) -> Option<u32>
+    requires { objects.now.workload ≡ w.now }
+    ensures { IfSome result (λ s. s < w.now.streams) }
+{
+    match first_with_work(w, objects, streams, from) {
+        Some(s) => Some(s),
+        None => first_with_work(w, objects, streams, 0),
     }
 }
 
@@ -61,15 +77,25 @@ fn has_work<'w>(w: &Workload, objects: &Objects<'w>, streams: &[Stream], s: Stre
     }
 }
 
-/// The turns of stream `s` over objects without locks, until it puts a unit into a pool that another stream lists, finds nothing, or is
-/// spent. Err: out of memory.
+/// When a stream on the caller's thread stops, beside when it finds nothing or is spent.
+#[derive(Clone, Copy)]
+pub(crate) enum Until {
+    /// It has put a unit into a pool that another stream lists.
+    PutsForOthers,
+    /// It has made so many turns.
+    HasMade(u32),
+}
+
+/// The turns of stream `s` over objects without locks, until it finds nothing, is spent, or stops for this. Err: out of memory.
 pub(crate) fn go_alone<'w, R: Wait, P: Work>(
     rt: &R,
     alloc: Global,
     w: &Workload,
     orders: &[StoredOrder],
     work: &P,
+    listing: &Listing,
     s: u32,
+    until: Until,
     objects: Objects<'w>,
     stream: &mut Stream,
 ) -> Result<Objects<'w>, Want>
@@ -81,15 +107,15 @@ pub(crate) fn go_alone<'w, R: Wait, P: Work>(
     ensures stays { IfOk result (λ left. StaysCrew w.now (stored_of orders.now (P.returns work.now)) stream.old objects.entry stream.new left) }
     ensures fresh { OnOk result (BeginsAnew w.now (stored_of orders.now (P.returns work.now)) stream.old objects.entry stream.new) }
 {
-    let listing = Listing::new(alloc, w)?;
     let (plain, mut pass) = Plain::make(objects);
     turns(
         rt,
         w,
         orders,
         work,
-        &listing,
+        listing,
         bit(s),
+        until,
         &plain,
         &mut pass,
         stream,
@@ -113,6 +139,7 @@ fn turns<'w, R: Wait, P: Work>(
     work: &P,
     listing: &Listing,
     bit: u64,
+    until: Until,
     plain: &Plain<'w>,
     pass: &mut PlainPass<'w>,
     stream: &mut Stream,
@@ -128,18 +155,19 @@ fn turns<'w, R: Wait, P: Work>(
     ensures fresh { OnOk result (BeginsAnew w.now (stored_of orders.now (P.returns work.now)) stream.old pass.old stream.new) }
 {
     let puts = Puts::new();
+    let mut until = until;
     'turns: for _ in rt.forever() {
         let putting = stream.puts();
-        let turn = advance(rt, w, orders, work, &puts, plain, pass, stream)?;
-        if stops(turn, putting, stream, listing, bit, &puts) {
+        let turn = advance(w, orders, work, &puts, plain, pass, stream)?;
+        if stops(turn, putting, stream, listing, bit, &mut until, &puts) {
             return Ok(());
         }
     }
     unreachable!()
 }
 
-// Whether the stream of this bit stops after this turn: it finds nothing, may make no other turn, or has put a unit into a pool that
-// another stream lists. `putting` says whether a unit was in its tray.
+// Whether the stream of this bit stops after this turn: it finds nothing, may make no other turn, or stops for what it was to go on
+// until. `putting` says whether a unit was in its tray.
 #[inline(always)]
 fn stops(
     turn: Turn,
@@ -147,6 +175,7 @@ fn stops(
     stream: &Stream,
     listing: &Listing,
     bit: u64,
+    until: &mut Until,
     puts: &Puts,
 ) -> bool
     ensures { result ≡ true → MayEnd putting turn }
@@ -154,18 +183,40 @@ fn stops(
     match turn {
         Turn::Spent | Turn::Worn => true,
         Turn::EmptyRound => stream.is_idle(),
-        Turn::Stepped => false,
-        Turn::Moved => match puts.take() {
-            Some(p) => putting && listing.of(p) & !bit != 0,
-            None => false,
-        },
+        Turn::Stepped => until.has_made_all(),
+        Turn::Moved => putting && until.comes_by(listing, bit, puts),
+    }
+}
+
+impl Until {
+    // One more turn was made: whether it was the last.
+    #[inline(always)]
+    fn has_made_all(&mut self) -> bool {
+        match self {
+            Until::PutsForOthers => false,
+            Until::HasMade(turns) => {
+                *turns = turns.saturating_sub(1);
+                *turns == 0
+            }
+        }
+    }
+
+    // The stream of this bit has put a unit into a pool: whether it stops.
+    #[inline(always)]
+    fn comes_by(&mut self, listing: &Listing, bit: u64, puts: &Puts) -> bool {
+        match self {
+            Until::PutsForOthers => match puts.take() {
+                Some(p) => listing.of(p) & !bit != 0,
+                None => false,
+            },
+            Until::HasMade(_) => self.has_made_all(),
+        }
     }
 }
 
 // Takes the memory that one turn of a stream needs, and makes the turn.
 #[inline(always)]
-fn advance<'w, R: Wait, P: Work>(
-    rt: &R,
+fn advance<'w, P: Work>(
     w: &Workload,
     orders: &[StoredOrder],
     work: &P,
@@ -192,7 +243,7 @@ fn advance<'w, R: Wait, P: Work>(
 {
     w.known();
     stream.prepare(w, orders)?;
-    let turn = noted_turn(rt, plain, puts, stream, pass, w, work);
+    let turn = noted_turn(plain, puts, stream, pass, w, work);
     // The number of steps is of no use here, but its contract says that the stream made no more than it may make.
     stream.steps();
     Ok(turn)

@@ -1,6 +1,6 @@
 //! All streams of a workload, and the objects that they share, between waves.
 
-ghost use Rattle.std.specs.Prelude.{◌≡◌, ◌≤◌, ℕ, IfOk, List, Option, length, replicate, true};
+ghost use Rattle.std.specs.Prelude.{◌≡◌, ◌<◌, ◌≤◌, ℕ, IfOk, IfSome, List, Option, length, replicate, true};
 ghost use Rattle.abt_machine.specs.declared.events.Outcome.{Outcome};
 ghost use Rattle.abt_machine.specs.Stored.{CallsStored, Stored};
 ghost use Rattle.abt_order.specs.Stored.{stored_of};
@@ -14,7 +14,8 @@ ghost use Rattle.abt_waves.specs.Leaving.{Lowers};
 ghost use Rattle.abt_waves.specs.Storing.{stored_by};
 ghost use Rattle.abt_waves.specs.Waves.{HasEnded, IsFleetOf};
 
-use crate::alone::{find_alone, go_alone};
+use crate::alone::{Until, find_alone, go_alone, next_with_work};
+use crate::listing::{Listing, calls_none};
 use crate::locks::{Locked, Locking, Orders, StoredOrders};
 use crate::watch::Starts;
 use crate::wave::sail;
@@ -28,6 +29,9 @@ use std::alloc::Global;
 use std::marker::Model;
 use std::sync::Wait;
 use std::thread::Threads;
+
+// How many turns a stream makes at a time while streams only hand work to each other.
+const TURNS: u32 = 256;
 
 /// The streams of a workload, with the objects that they share.
 #[derive(Drop)]
@@ -115,17 +119,21 @@ impl<'w> Fleet<'w> {
         })
     }
 
-    // The turns of the one stream that has anything to do, if there is one, over objects without locks.
-    fn alone<R: Wait, P: Work>(
+    // Turns of stream `s` over objects without locks.
+    fn go<R: Wait, P: Work>(
         self,
         rt: &R,
         alloc: Global,
         orders: &[StoredOrder],
         work: &P,
+        listing: &Listing,
+        s: u32,
+        until: Until,
     ) -> Result<Fleet<'w>, Want>
         requires several { 2 ≤ self.workload.streams }
         requires calls { CallsStored self.workload (P.count work.now) }
         requires fleet { IsFleetOf own_lock clock_at self.workload (stored_of orders.now (P.returns work.now)) self.steps self }
+        requires stream { s < self.workload.streams }
         ensures fleet { IfOk result (IsFleetOf own_lock clock_at self.entry.workload (stored_of orders.now (P.returns work.now)) self.entry.steps) }
         ensures raises_none { IfOk result (λ fleet. work_at self.entry.workload self.entry.steps (moment_in self.entry.workload fleet) ≤ work_at self.entry.workload self.entry.steps (moment_in self.entry.workload self.entry)) }
         ensures keeps { IfOk result (λ fleet. fleet.keeps ≡ self.entry.keeps) }
@@ -137,22 +145,15 @@ impl<'w> Fleet<'w> {
             objects,
             mut streams,
         } = self;
-        let Some(s) = find_alone(w, &objects, &streams) else {
-            return Ok(Fleet {
-                w,
-                steps,
-                keeps,
-                objects,
-                streams,
-            });
-        };
         let objects = go_alone(
             rt,
             alloc,
             w,
             orders,
             work,
+            listing,
             s,
+            until,
             objects,
             &mut streams[s as usize],
         )?;
@@ -163,6 +164,98 @@ impl<'w> Fleet<'w> {
             objects,
             streams,
         })
+    }
+
+    // The stream that alone has anything to do, if there is one.
+    fn lone(&self) -> Option<u32>
+        requires { self.now.objects.workload ≡ self.now.workload }
+        ensures { IfSome result (λ s. s < self.now.workload.streams) }
+    {
+        find_alone(self.w, &self.objects, &self.streams)
+    }
+
+    // The first stream from this one on that has anything to do, or else the first of all, if there is one.
+    fn next(&self, from: u32) -> Option<u32>
+        requires { self.now.objects.workload ≡ self.now.workload }
+        ensures { IfSome result (λ s. s < self.now.workload.streams) }
+    {
+        next_with_work(self.w, &self.objects, &self.streams, from)
+    }
+
+    // The turns of the one stream that has anything to do, if there is one, until it puts a unit into a pool that another one lists.
+    fn alone<R: Wait, P: Work>(
+        self,
+        rt: &R,
+        alloc: Global,
+        orders: &[StoredOrder],
+        work: &P,
+        listing: &Listing,
+    ) -> Result<Fleet<'w>, Want>
+        requires several { 2 ≤ self.workload.streams }
+        requires calls { CallsStored self.workload (P.count work.now) }
+        requires fleet { IsFleetOf own_lock clock_at self.workload (stored_of orders.now (P.returns work.now)) self.steps self }
+        ensures fleet { IfOk result (IsFleetOf own_lock clock_at self.entry.workload (stored_of orders.now (P.returns work.now)) self.entry.steps) }
+        ensures raises_none { IfOk result (λ fleet. work_at self.entry.workload self.entry.steps (moment_in self.entry.workload fleet) ≤ work_at self.entry.workload self.entry.steps (moment_in self.entry.workload self.entry)) }
+        ensures keeps { IfOk result (λ fleet. fleet.keeps ≡ self.entry.keeps) }
+    {
+        match self.lone() {
+            Some(s) => self.go(rt, alloc, orders, work, listing, s, Until::PutsForOthers),
+            None => Ok(self),
+        }
+    }
+
+    // So many times the turns of a stream that has anything to do, of one after the other.
+    fn by_turns<R: Wait, P: Work>(
+        self,
+        rt: &R,
+        alloc: Global,
+        orders: &[StoredOrder],
+        work: &P,
+        listing: &Listing,
+        times: u32,
+    ) -> Result<Fleet<'w>, Want>
+        requires several { 2 ≤ self.workload.streams }
+        requires calls { CallsStored self.workload (P.count work.now) }
+        requires fleet { IsFleetOf own_lock clock_at self.workload (stored_of orders.now (P.returns work.now)) self.steps self }
+        ensures fleet { IfOk result (IsFleetOf own_lock clock_at self.entry.workload (stored_of orders.now (P.returns work.now)) self.entry.steps) }
+        ensures raises_none { IfOk result (λ fleet. work_at self.entry.workload self.entry.steps (moment_in self.entry.workload fleet) ≤ work_at self.entry.workload self.entry.steps (moment_in self.entry.workload self.entry)) }
+        ensures keeps { IfOk result (λ fleet. fleet.keeps ≡ self.entry.keeps) }
+    {
+        let mut fleet = self;
+        let mut from = 0;
+        'times: for _ in 0..times {
+            let Some(s) = fleet.next(from) else {
+                return Ok(fleet);
+            };
+            fleet = fleet.go(rt, alloc, orders, work, listing, s, Until::HasMade(TURNS))?;
+            from = s.saturating_add(1);
+        }
+        Ok(fleet)
+    }
+
+    // What needs no thread: the turns of a stream that alone has anything to do, and while streams only hand work to each other, turns
+    // of each of them by turns.
+    fn unshared<R: Wait, P: Work>(
+        self,
+        rt: &R,
+        alloc: Global,
+        orders: &[StoredOrder],
+        work: &P,
+        listing: &Listing,
+        starts: &Starts,
+    ) -> Result<Fleet<'w>, Want>
+        requires several { 2 ≤ self.workload.streams }
+        requires calls { CallsStored self.workload (P.count work.now) }
+        requires fleet { IsFleetOf own_lock clock_at self.workload (stored_of orders.now (P.returns work.now)) self.steps self }
+        ensures fleet { IfOk result (IsFleetOf own_lock clock_at self.entry.workload (stored_of orders.now (P.returns work.now)) self.entry.steps) }
+        ensures raises_none { IfOk result (λ fleet. work_at self.entry.workload self.entry.steps (moment_in self.entry.workload fleet) ≤ work_at self.entry.workload self.entry.steps (moment_in self.entry.workload self.entry)) }
+        ensures keeps { IfOk result (λ fleet. fleet.keeps ≡ self.entry.keeps) }
+    {
+        let times = starts.times();
+        if times == 0 {
+            return self.alone(rt, alloc, orders, work, listing);
+        }
+        self.by_turns(rt, alloc, orders, work, listing, times)
     }
 
     // How the run ended, if it did.
@@ -215,10 +308,12 @@ impl<'w> Fleet<'w> {
         ensures keeps { IfOk result (λ ended. ended.0.keeps ≡ self.entry.keeps) }
     {
         let live = vec![in alloc; true; self.w.streams() as usize]?;
+        let listing = Listing::new(alloc, self.w)?;
         let starts = Starts::new();
+        starts.let_share(!work.watches() && calls_none(self.w));
         let mut fleet = self;
         'waves: loop {
-            fleet = fleet.alone(rt, alloc, orders, work)?;
+            fleet = fleet.unshared(rt, alloc, orders, work, &listing, &starts)?;
             if let Some(outcome) = fleet.ended() {
                 return Ok((fleet, outcome));
             }

@@ -1,8 +1,8 @@
 //! Which streams list each pool.
 
-ghost use Rattle.std.specs.Prelude.{◌<◌};
+ghost use Rattle.std.specs.Prelude.{◌<◌, length};
 
-use abt_machine::{PoolNo, StreamNo, Want, Workload};
+use abt_machine::{Op, PoolNo, StreamNo, UnitNo, Want, Workload};
 use std::alloc::Global;
 
 /// Of each pool the streams whose main schedulers list it, as one bit each.
@@ -41,6 +41,28 @@ fn mark(streams: &mut [u64], w: &Workload, s: StreamNo)
             *listing |= bit(s.0);
         }
     }
+}
+
+/// Whether no unit calls a function of the user's.
+pub(crate) fn calls_none(w: &Workload) -> bool {
+    for u in 0..w.units() {
+        if calls(w, UnitNo(u)) {
+            return false;
+        }
+    }
+    true
+}
+
+// Whether the unit calls one.
+fn calls(w: &Workload, u: UnitNo) -> bool
+    requires { u.0 < length w.now.units }
+{
+    for op in w.unit(u).body.ops() {
+        if matches!(op, Op::Call(_)) {
+            return true;
+        }
+    }
+    false
 }
 
 /// The bit of a stream. No workload has more than 64 streams.

@@ -50,9 +50,8 @@ pub trait Locked {
     ghost is_of: { Self → Self.Pass → Type 0 };
 
     /// One turn of a stream, which notes the pool into which it puts a unit.
-    fn turn<T: Wait, P: Work>(
+    fn turn<P: Work>(
         &self,
-        rt: &T,
         puts: &Puts,
         stream: &mut Stream,
         pass: &mut Self::Pass,
@@ -72,6 +71,11 @@ pub trait Locked {
         ensures shapes { (Z : Stored) → FitsShapes w.now Z stream.old → FitsShapes w.now Z stream.new }
         ensures pass { is_of self.now pass.new }
         ensures number { (locks self.now).number pass.new ≡ (locks self.now).number pass.old };
+
+    /// Gives back every lock that the pass keeps from one turn to the next. Nothing that is seen of the pass changes.
+    fn rest(&self, pass: &mut Self::Pass)
+        requires pass { is_of self.now pass.old }
+        ensures same { pass.new ≡ pass.old };
 
     // At the start each clock is 0.
     ghost begins: { (W : Parts) (held : ObjectsValue) → ArePlaced W held → (l : Lock) → clock held l ≡ 0 };
@@ -153,16 +157,20 @@ impl<'w, R: Wait> Locked for Split<'w, R> {
 
     ghost begins = { split_begins };
 
-    fn turn<T: Wait, P: Work>(
+    fn turn<P: Work>(
         &self,
-        rt: &T,
         puts: &Puts,
         stream: &mut Stream,
         pass: &mut SplitPass<'w>,
         w: &Workload,
         work: &P,
     ) -> Turn {
-        noted_turn(rt, self, puts, stream, pass, w, work)
+        noted_turn(self, puts, stream, pass, w, work)
+    }
+
+    #[inline(always)]
+    fn rest(&self, pass: &mut SplitPass<'w>) {
+        Commons::rest(self, pass)
     }
 }
 

@@ -1,19 +1,17 @@
 //! The pools into which a stream puts units, as it calls the objects.
 
-ghost use Rattle.std.specs.Prelude.{◌≡◌, ⊤};
-ghost use Rattle.abt_commons.specs.AllPasses.{AreAll};
+ghost use Rattle.std.specs.Prelude.{◌≡◌};
 ghost use Rattle.abt_machine.specs.Stored.{CallsStored, Stored};
 ghost use Rattle.abt_stream.specs.Heeding.{Heeds};
 ghost use Rattle.abt_stream.specs.Streams.{FitsShapes, FitsStream};
 ghost use Rattle.abt_stream.specs.Turned.{IsReady, Turned};
 
-use abt_commons::{Act, Commons, Objects, Reply};
+use abt_commons::{Act, Commons, Reply};
 use abt_machine::{PoolNo, Site, Workload};
 use abt_stream::{Stream, Turn};
 use abt_work::Work;
 use std::cell::Cell;
 use std::marker::Model;
-use std::sync::Wait;
 
 /// Where a stream notes the pool into which it puts a unit.
 #[derive(Drop)]
@@ -42,24 +40,20 @@ impl Puts {
     }
 }
 
-// The objects, lent to a stream that notes what it puts. Who lends them closes them.
+// The objects, lent to a stream that notes what it puts.
 #[derive(Drop)]
-struct Noting<'a, T, C> {
-    rt: &'a T,
+struct Noting<'a, C> {
     commons: &'a C,
     puts: &'a Puts,
 }
 
-impl<'a, T, C> Model for Noting<'a, T, C> {
+impl<'a, C> Model for Noting<'a, C> {
     ghost Value = { C };
 
     ghost view = { λ noting. noting.commons.now };
 }
 
-impl<'w, 'a, T: Wait, X: Drop, C: Commons<'w, Pass = X>> Commons<'w> for Noting<'a, T, C> {
-    ghost use Rattle.std.specs.Prelude.{⊤};
-    ghost use Rattle.abt_commons.specs.AllPasses.{AreAll};
-
+impl<'w, 'a, X: Drop, C: Commons<'w, Pass = X>> Commons<'w> for Noting<'a, C> {
     type Pass = X;
 
     ghost workload = { λ noting. C.workload noting };
@@ -70,10 +64,6 @@ impl<'w, 'a, T: Wait, X: Drop, C: Commons<'w, Pass = X>> Commons<'w> for Noting<
 
     ghost moves = { λ noting old x at act told new. C.moves noting old x at act told new };
 
-    ghost streams = { λ noting. C.streams noting };
-
-    ghost leaves = { λ noting passes held. ⊤ };
-
     #[inline(always)]
     fn call(&self, pass: &mut X, site: Site, at: u64, act: Act) -> Reply {
         if let (Site::Pool(p), Act::Put(_)) = (site, &act) {
@@ -82,20 +72,15 @@ impl<'w, 'a, T: Wait, X: Drop, C: Commons<'w, Pass = X>> Commons<'w> for Noting<
         self.commons.call(pass, site, at, act)
     }
 
-    // What is lent is not closed: this waits for ever.
-    fn close(self, passes: Vec<X>) -> Objects<'w>
-        requires passes { AreAll (C.is_of self) C.number (C.streams self) passes.items }
-        ensures leaves { ⊤ }
-    {
-        'forever: for _ in self.rt.forever() {}
-        unreachable!()
+    #[inline(always)]
+    fn rest(&self, pass: &mut X) {
+        self.commons.rest(pass)
     }
 }
 
 /// One turn of a stream, which notes the pool into which it puts a unit.
 #[inline(always)]
-pub fn noted_turn<'w, T: Wait, X: Drop, C: Commons<'w, Pass = X>, P: Work>(
-    rt: &T,
+pub fn noted_turn<'w, X: Drop, C: Commons<'w, Pass = X>, P: Work>(
     commons: &C,
     puts: &Puts,
     stream: &mut Stream,
@@ -117,5 +102,5 @@ pub fn noted_turn<'w, T: Wait, X: Drop, C: Commons<'w, Pass = X>, P: Work>(
     ensures pass { C.is_of commons.now pass.new }
     ensures number { C.number pass.new ≡ C.number pass.old }
 {
-    stream.turn(&Noting { rt, commons, puts }, pass, w, work)
+    stream.turn(&Noting { commons, puts }, pass, w, work)
 }

@@ -124,6 +124,7 @@ fn turns<R: Threads + Wait, P: Work, O: Orders, C: Locked>(
             rt, w, orders, work, watch, &mut shift, &puts, locks, stream, pass,
         ) {
             Some(stop) => {
+                locks.rest(pass);
                 watch.leave(shift);
                 return stop;
             }
@@ -154,7 +155,7 @@ fn take_turn<R: Threads + Wait, P: Work, O: Orders, C: Locked>(
     ensures gone { (first : StreamValue) → HasGone (C.locks locks.now) C.lock w.now (stored_by (O.shapes orders.now) (P.returns work.now)) first stream.old pass.old → HasGone (C.locks locks.now) C.lock w.now (stored_by (O.shapes orders.now) (P.returns work.now)) first stream.new pass.new }
     ensures stops { (first : StreamValue) → HasGone (C.locks locks.now) C.lock w.now (stored_by (O.shapes orders.now) (P.returns work.now)) first stream.old pass.old → IfSome result (StopsBy (C.locks locks.now) C.lock w.now true first.log stream.new pass.new) }
 {
-    let Ok(turn) = advance(rt, w, orders, work, puts, locks, stream, pass) else {
+    let Ok(turn) = advance(w, orders, work, puts, locks, stream, pass) else {
         watch.refuse();
         return Some(Stop::Refused);
     };
@@ -164,15 +165,32 @@ fn take_turn<R: Threads + Wait, P: Work, O: Orders, C: Locked>(
     match turn {
         Turn::Spent => Some(Stop::Spent),
         Turn::Worn => Some(Stop::Worn),
-        Turn::EmptyRound => stop_unless(looks_on(rt, watch, shift, stream), Stop::Idle),
+        Turn::EmptyRound => stop_unless(
+            looks_on(rt, watch, shift, stream, locks, pass),
+            Stop::Idle,
+        ),
         Turn::Stepped => stop_unless(watch.turned(shift, stream), Stop::Refused),
         Turn::Moved => stop_unless(watch.turned(shift, stream), Stop::Refused),
     }
 }
 
-// Whether a stream goes on after an empty round.
-fn looks_on<R: Threads + Wait>(rt: &R, watch: &Watch, shift: &mut Shift, stream: &Stream) -> bool {
-    !stream.is_idle() || watch.found_none(rt, shift)
+// Whether a stream goes on after an empty round. Before it waits it gives back what it keeps.
+fn looks_on<R: Threads + Wait, C: Locked>(
+    rt: &R,
+    watch: &Watch,
+    shift: &mut Shift,
+    stream: &Stream,
+    locks: &C,
+    pass: &mut C::Pass,
+) -> bool
+    requires pass { C.is_of locks.now pass.old }
+    ensures same { pass.new ≡ pass.old }
+{
+    if !stream.is_idle() {
+        return true;
+    }
+    locks.rest(pass);
+    watch.found_none(rt, shift)
 }
 
 fn stop_unless(goes_on: bool, stop: Stop) -> Option<Stop>
@@ -182,8 +200,7 @@ fn stop_unless(goes_on: bool, stop: Stop) -> Option<Stop>
 }
 
 // Takes the memory that one turn of a stream needs, and makes the turn.
-fn advance<R: Wait, P: Work, O: Orders, C: Locked>(
-    rt: &R,
+fn advance<P: Work, O: Orders, C: Locked>(
     w: &Workload,
     orders: &O,
     work: &P,
@@ -202,7 +219,7 @@ fn advance<R: Wait, P: Work, O: Orders, C: Locked>(
 {
     w.known();
     orders.prepare(stream, w)?;
-    let turn = locks.turn(rt, puts, stream, pass, w, work);
+    let turn = locks.turn(puts, stream, pass, w, work);
     // The number of steps is of no use here, but its contract says that it is no more than the stream may make.
     stream.steps();
     Ok(turn)

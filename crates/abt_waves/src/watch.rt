@@ -37,23 +37,58 @@ const PATIENCE: u32 = 32;
 // How many further empty rounds in a row a stream without work makes at most, while others have work.
 const FURTHER_ROUNDS: u32 = 1_000;
 
-/// What the waves of a run know of threads: whether one was waited for in vain, so that some streams may share a thread.
+// How few turns between two sleeps are not worth the second one.
+const SHORT_RUN: u32 = 256;
+
+// After how many such sleeps in a row threads do not pay for a stream.
+const SHORT_RUNS: u32 = 8;
+
+// How often streams make turns by turns after the first wave whose streams only handed work to each other; twice as often after each
+// further one, up to the most.
+const FIRST_TIMES: u32 = 1 << 12;
+
+const MOST_TIMES: u32 = 1 << 20;
+
+/// What the waves of a run know of threads: whether one was waited for in vain, so that some streams may share a thread; and whether
+/// streams only handed work to each other, so that they are to share one for some time.
 #[derive(Drop)]
 pub struct Starts {
     lacking: Cell<bool>,
+    // Whether streams may share a thread that could have one each.
+    shares: Cell<bool>,
+    // How often streams make turns by turns before the next wave.
+    times: Cell<u32>,
 }
 
 impl Starts {
-    /// At the start of a run no thread is known to lack.
+    /// At the start of a run no thread is known to lack, and no streams share one.
     pub fn new() -> Starts {
         Starts {
             lacking: Cell::new(false),
+            shares: Cell::new(false),
+            times: Cell::new(0),
         }
+    }
+
+    /// Whether streams that only hand work to each other may share a thread.
+    pub(crate) fn let_share(&self, may: bool) {
+        self.shares.set(may);
+    }
+
+    /// How often streams make turns by turns before the next wave.
+    pub(crate) fn times(&self) -> u32 {
+        self.times.get()
     }
 
     /// After a wave: what it has found.
     pub(crate) fn note(&self, watch: &Watch) {
         self.lacking.set(watch.lacking.load(Ordering::SeqCst));
+        if watch.is_crowded() {
+            let twice = self.times.get().saturating_mul(2);
+            self.times.set(twice.clamp(FIRST_TIMES, MOST_TIMES));
+        } else {
+            self.times.set(0);
+        }
     }
 }
 
@@ -74,6 +109,10 @@ pub(crate) struct Watch {
     // Of each stream how often it was called, on which it sleeps.
     calls: Vec<AtomicU64>,
     refused: AtomicBool,
+    // The streams that may find that threads do not pay for them: all that are live, or none.
+    crowding: u64,
+    // Those that have found that.
+    crowded: AtomicU64,
 }
 
 /// What a stream is at.
@@ -95,6 +134,10 @@ pub(crate) struct Shift {
     further_rounds: u32,
     // How many turns it makes before it looks whether another one is out of memory.
     heeding: u32,
+    // How many turns it has made since it last slept.
+    run: u32,
+    // How many times in a row it slept after few turns.
+    short_runs: u32,
 }
 
 impl Watch {
@@ -119,6 +162,12 @@ impl Watch {
             asleep: AtomicU64::new(0),
             calls: zeros(alloc, live.len())?,
             refused: AtomicBool::new(false),
+            crowding: if starts.shares.get() {
+                live_bits(live)
+            } else {
+                0
+            },
+            crowded: AtomicU64::new(0),
         })
     }
 
@@ -139,6 +188,8 @@ impl Watch {
             patience: PATIENCE,
             further_rounds: 0,
             heeding: HEEDING,
+            run: 0,
+            short_runs: 0,
         }
     }
 
@@ -157,6 +208,7 @@ impl Watch {
         if shift.further_rounds > 0 && !stream.is_idle() {
             self.note_work(shift);
         }
+        shift.run = shift.run.saturating_add(1);
         if shift.heeding > 0 {
             shift.heeding -= 1;
             return true;
@@ -168,7 +220,7 @@ impl Watch {
     /// After a round in which a stream found nothing: whether it goes on. It looks once more if it was not marked, or was called since, and
     /// else waits for a call. It does not go on if it has made all the further rounds that it may make.
     pub(crate) fn found_none<R: Threads + Wait>(&self, rt: &R, shift: &mut Shift) -> bool {
-        if shift.further_rounds >= FURTHER_ROUNDS || self.tally().over {
+        if shift.further_rounds >= FURTHER_ROUNDS || self.tally().over || self.is_crowded() {
             return false;
         }
         shift.further_rounds += 1;
@@ -177,7 +229,7 @@ impl Watch {
             self.mark(shift);
             return !self.refused.load(Ordering::SeqCst);
         }
-        self.rest(rt, shift) && !self.refused.load(Ordering::SeqCst)
+        self.rest(rt, shift) && !self.refused.load(Ordering::SeqCst) && !self.is_crowded()
     }
 
     /// A stream leaves the wave.
@@ -192,6 +244,32 @@ impl Watch {
     pub(crate) fn refuse(&self) {
         self.refused.store(true, Ordering::SeqCst);
         self.call(u64::MAX);
+    }
+
+    // Whether threads pay for none of the streams: each slept again and again after few turns.
+    fn is_crowded(&self) -> bool {
+        self.crowding != 0 && self.crowded.load(Ordering::SeqCst) == self.crowding
+    }
+
+    // The stream is about to sleep. If it does so after few turns too often in a row, threads do not pay for it; if they pay for none, all
+    // are to leave.
+    fn note_sleep(&self, shift: &mut Shift) {
+        shift.short_runs = if shift.run < SHORT_RUN {
+            shift.short_runs.saturating_add(1)
+        } else {
+            0
+        };
+        shift.run = 0;
+        if shift.short_runs == SHORT_RUNS {
+            self.crowded
+                .fetch_or(shift.bit & self.crowding, Ordering::SeqCst);
+            if self.is_crowded() {
+                self.call(u64::MAX);
+            }
+        }
+        if shift.short_runs == 0 {
+            self.crowded.fetch_and(!shift.bit, Ordering::SeqCst);
+        }
     }
 
     // The tally at this moment.
@@ -309,6 +387,7 @@ impl Watch {
         shift.waited = true;
         if !self.looks(shift) {
             shift.look /= 2;
+            self.note_sleep(shift);
             self.sleep(rt, shift);
         }
     }
@@ -397,6 +476,19 @@ fn live_count(live: &[bool]) -> u64
     ensures { result ≡ count_by (λ (b : Bool). b) live.now }
 {
     live.iter().filter(|live| **live).count() as u64
+}
+
+// The bits of the streams that are live.
+fn live_bits(live: &[bool]) -> u64 {
+    let mut bits = 0;
+    let mut s = 0;
+    for is in live {
+        if *is {
+            bits |= bit(s);
+        }
+        s = s.wrapping_add(1);
+    }
+    bits
 }
 
 // The tally after a change, both as numbers.

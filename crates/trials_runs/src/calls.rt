@@ -48,6 +48,10 @@ impl Work for Counting {
 
     fn before_step(&self, _stream: StreamNo, _unit: UnitNo, _at: u32) {}
 
+    fn watches(&self) -> bool {
+        false
+    }
+
     fn call(&self, _function: u32, _unit: UnitNo, acc: u64, _keys: &[u64]) -> u64 {
         self.calls.fetch_add(1, Ordering::SeqCst);
         acc.wrapping_add(1)
@@ -79,6 +83,10 @@ impl Work for Slow {
     ghost returns = { λ _ _ _ _ _. None };
 
     fn before_step(&self, _stream: StreamNo, _unit: UnitNo, _at: u32) {}
+
+    fn watches(&self) -> bool {
+        false
+    }
 
     fn call(&self, _function: u32, unit: UnitNo, acc: u64, _keys: &[u64]) -> u64 {
         let before = self.calls.fetch_add(1, Ordering::SeqCst);

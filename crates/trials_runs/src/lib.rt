@@ -12,6 +12,8 @@ mod flows;
 #[cfg(test)]
 mod halls;
 #[cfg(test)]
+mod keeping;
+#[cfg(test)]
 mod lives;
 #[cfg(test)]
 mod lives_calls;

@@ -46,7 +46,8 @@ const SAYING_OUTPUT: &str =
 const HELP: &str =
     "abtwaves WORKLOAD LIVES [--steps V] [--journal]\nabtwaves --help\nabtwaves --version\n";
 
-const BAD_WORDS: &str = "abtwaves: bad command line\n";
+const BAD_WORDS: &str =
+    "abtwaves: bad command line\nusage: abtwaves WORKLOAD LIVES [--steps V] [--journal]\n";
 
 // The words, the bytes of the files `w` and `l`, the write that fails, the status, the output and the message.
 type Row<'a> = (&'a [&'a str], &'a str, &'a [u8], u64, u8, &'a str, &'a str);
@@ -106,7 +107,7 @@ static ROWS: [Row<'static>; 22] = [
         NONE,
         5,
         "",
-        "abtwaves: cannot read\n",
+        "abtwaves: cannot read\nx: absent\n",
     ),
     (
         &["x", "l"],
@@ -115,7 +116,7 @@ static ROWS: [Row<'static>; 22] = [
         NONE,
         5,
         "",
-        "abtwaves: cannot read\n",
+        "abtwaves: cannot read\nx: absent\n",
     ),
     (
         &["w", "l"],
@@ -145,7 +146,15 @@ static ROWS: [Row<'static>; 22] = [
         "",
     ),
     (&["--help"], MADE, b"", NONE, 0, HELP, ""),
-    (&["--version"], MADE, b"", NONE, 0, "abtwaves 1\n", ""),
+    (
+        &["--version"],
+        MADE,
+        b"",
+        NONE,
+        0,
+        "abtwaves 1, proved by the logic dac8208d650f15bf\n",
+        "",
+    ),
     (
         &["--version"],
         MADE,

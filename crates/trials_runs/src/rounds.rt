@@ -206,7 +206,7 @@ fn next_round(
     }
 }
 
-// As `next_round`, in the list of an earlier round.
+// As `next_round`, in the list of an earlier round, which stays as it is if the scheduler remembers it.
 fn next_round_into(
     scheduler: &mut Scheduler,
     w: &Workload,
@@ -220,6 +220,10 @@ fn next_round_into(
     ensures number { scheduler.new.number ≡ scheduler.old.number }
     ensures round { scheduler.new.round ≤ scheduler.old.round + 1 }
 {
+    if scheduler.is_fixed() {
+        scheduler.round_again(w);
+        return Ok(());
+    }
     match scheduler.round_into(w, orders, order) {
         Ok(()) => Ok(()),
         Err(Want) => scheduler.round_into(w, orders, order),

@@ -97,7 +97,7 @@ impl Work for Holding {
 }
 
 // Whether the flag is set within the turns that a held step waits.
-fn is_seen(flag: &AtomicBool) -> bool {
+pub(crate) fn is_seen(flag: &AtomicBool) -> bool {
     for _ in 0..TURNS {
         if flag.load(Ordering::SeqCst) {
             return true;

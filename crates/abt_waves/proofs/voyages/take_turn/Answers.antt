@@ -1,5 +1,6 @@
 -- Why a stream leaves after a turn.
 use Rattle.std.proofs.Common.{true, sym, subst}
+use Rattle.std.specs.Prelude.{IfSome}
 use Rattle.std.proofs.lemmas.Option.{IfSome_then}
 use Rattle.abt_waves.specs.Stops.{StopsBy, TurnEnds}
 use Rattle.abt_waves.specs.Storing.{stored_by}
@@ -18,9 +19,10 @@ pub returns-in-EmptyRound-clause-stops : goal.returns-in-EmptyRound-clause-stops
 returns-in-EmptyRound-clause-stops g c = λ first gone.
     let Z = stored_by (g.O.Orders.shapes c.args.orders.now) (g.P.Work.returns c.args.work.now) in
     let ends = subst (TurnEnds (g.C.Locked.locks c.args.locks.now) g.C.Locked.lock c.args.w.now c.args.stream.now.log c.advance.new.stream c.advance.new.pass) c.in-EmptyRound.is c.in-Ok.ensures.ends in
-    IfSome_then c.stop_unless.result c.stop_unless.ensures
+    subst (λ p. IfSome c.stop_unless.result (StopsBy (g.C.Locked.locks c.args.locks.now) g.C.Locked.lock c.args.w.now true first.log c.advance.new.stream p)) (sym c.looks_on.ensures.same)
+    (IfSome_then c.stop_unless.result c.stop_unless.ensures
     (λ s is. subst (StopsBy (g.C.Locked.locks c.args.locks.now) g.C.Locked.lock c.args.w.now true first.log c.advance.new.stream c.advance.new.pass) (sym is)
-    (λ lives. ends-since (g.C.Locked.locks c.args.locks.now) g.C.Locked.lock c.args.w.now Z first c.args.stream.now c.advance.new.stream c.args.pass.now gone ends))
+    (λ lives. ends-since (g.C.Locked.locks c.args.locks.now) g.C.Locked.lock c.args.w.now Z first c.args.stream.now c.advance.new.stream c.args.pass.now gone ends)))
 
 pub returns-in-Stepped-clause-stops : goal.returns-in-Stepped-clause-stops
 returns-in-Stepped-clause-stops g c = λ first gone. IfSome_then c.stop_unless-in-Stepped.result c.stop_unless-in-Stepped.ensures

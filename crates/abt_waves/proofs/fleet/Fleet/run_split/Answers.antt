@@ -15,8 +15,8 @@ use Rattle.abt_waves.proofs.Crosses.{StoredOrders-sync, vtable-sync}
 use Rattle.abt_waves.proofs.Fleets.{fleet-own, goes-on-less, has-ended, own-fleet}
 use Rattle.abt_waves.proofs.fleet.Fleet.run_split.Goals as goal
 
-pub alone-requires : goal.alone-requires
-alone-requires g c =
+pub unshared-requires : goal.unshared-requires
+unshared-requires g c =
     let Z = stored_of c.args.orders.now (g.P.Work.returns c.args.work.now) in
     let is = c.waves.invariant.fleet in
     record {
