@@ -23,19 +23,20 @@ use Rattle.abt_explore.specs.declared.search.Found.{Found}
 use Rattle.abt_explore.specs.declared.search.Search.{Search}
 use Rattle.abt_explore.specs.declared.seen.Seen.{Seen}
 use Rattle.abt_explore.specs.Explored.{AreAllEnds, AreDistinctEnds, AreEnds, HasTooMany, IsEndOf, IsExplored, IsRealEnd, key_bytes, most_bytes}
-use Rattle.abt_explore.specs.Laws.{AreClosed, IsReachedBy}
+use Rattle.abt_explore.specs.Alone.{AreAllTried, AreClosedToEnds, IsOneTried}
+use Rattle.abt_explore.specs.Laws.{IsReachedBy}
 use Rattle.abt_explore.specs.Orders.{KeepsOrder}
 use Rattle.abt_explore.specs.Same.{ListsSame}
-use Rattle.abt_explore.specs.Searches.{AreFound, Grows, HasNoted, HasOutcome, IsEndIn, IsExpanded, IsFinished, IsMet, IsSearching, ListsEnd, Notes, NotesIfQuiet, SeesStart, Waits, journal_to, sees}
+use Rattle.abt_explore.specs.Searches.{AreFound, Grows, HasNoted, HasOutcome, IsEndIn, IsExpanded, IsFinished, IsMet, IsSearching, ListsEnd, Notes, NotesIfQuiet, SeesAll, SeesOne, SeesStart, Waits, journal_to, sees}
 use Rattle.abt_explore.specs.Seen.{has}
 use Rattle.abt_explore.specs.Unnumbered.{unnumbered_state}
 use Rattle.abt_explore.proofs.Counting.{counted-stamped}
 use Rattle.abt_explore.proofs.Growing.{push-cases}
+use Rattle.abt_explore.proofs.Meeting.{met-along}
 use Rattle.abt_explore.proofs.Reaching.{reached-after}
 use Rattle.abt_explore.proofs.SameSound.{sound-forgotten}
 use Rattle.abt_explore.proofs.SameValues.{quiet-same}
 use Rattle.abt_explore.proofs.Searching.{contains-at, contains-more, contains-none, contains-rest, expanded-grown, expanded-kept, grows-same}
-use Rattle.abt_explore.proofs.Seeing.{seen-along}
 use Rattle.abt_laws.proofs.RunParts.{last_state-sound}
 use Rattle.abt_laws.proofs.SoundRuns.{runs-are-sound}
 
@@ -237,15 +238,20 @@ module _ (W : Parts) (Z : Stored) (valid : IsValid W) (stored : OrdersStored W Z
       | inr rest ↦ elim rest [ inl in_hand ↦ cc | inr expanded ↦ expanded ]
     ]
 
-    -- what may come after what was seen is seen
-    closed : AreClosed W Z (λ m. IsTrue (sees search m))
-    closed S model s w is_after stands seen declared may = (all-expanded model seen).next s declared S w is_after stands may
+    -- all events are tried in what was seen, or one alone
+    closed-by : (S : State) (model : ModelValue) → IsAfter W Z 0 S → StandsFor W S model → SeesAll W Z search model ⊎ SeesOne W Z search model
+        → AreAllTried W Z (λ m. IsTrue (sees search m)) S ⊎ IsOneTried W Z (λ m. IsTrue (sees search m)) S
+    closed-by S model is_after stands (inl all) = inl (λ s w declared may. all s declared S w is_after stands may)
+    closed-by S model is_after stands (inr one) = inr (one S is_after stands)
+
+    closed : AreClosedToEnds W Z (λ m. IsTrue (sees search m))
+    closed S model is_after stands seen = closed-by S model is_after stands (all-expanded model seen).next
 
     -- the ends are all ends
     pub all-ends : SeesStart W search → AreAllEnds W Z search.ends.items
     all-ends begins J run quiet =
         let S : State = last_state W J in
-        let shows = seen-along W Z valid stored keeps (λ m. IsTrue (sees search m)) closed begins J run in
+        let shows = met-along W Z valid stored keeps (λ m. IsTrue (sees search m)) closed begins J run quiet in
         let sound : Sound W Z S = last_state-sound W Z J (runs-are-sound W Z) valid stored run in
         let end = (all-expanded shows.0 shows.1).listed (unnumbered_state S) (sound-forgotten W Z keeps S sound) shows.2 ((quiet-same W S).0 quiet) in
         (end.0, end.1, end-of W J end.0 quiet (searching.real end.0 end.1).end_of.picture.words end.2)

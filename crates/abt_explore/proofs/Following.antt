@@ -5,7 +5,7 @@ use Rattle.abt_machine.specs.declared.events.Event.{Event}
 use Rattle.abt_machine.specs.declared.events.What.{What}
 use Rattle.abt_machine.specs.Stored.{Stored}
 use Rattle.abt_machine.specs.declared.workload.Parts.{Parts}
-use Rattle.abt_machine.specs.Events.{after}
+use Rattle.abt_machine.specs.Events.{May, after}
 use Rattle.abt_machine.specs.Rounds.{OrdersStored}
 use Rattle.abt_machine.specs.Runs.{last_state}
 use Rattle.abt_machine.specs.Start.{start}
@@ -14,17 +14,21 @@ use Rattle.abt_machine.specs.Valid.{IsValid}
 use Rattle.abt_model.specs.Hints.{HasHints, IsMade}
 use Rattle.abt_model.specs.Models.{IsAfter, IsDone, ModelValue, StandsFor}
 use Rattle.abt_model.specs.Keys.{model_key, unnumbered_model}
+use Rattle.abt_laws.proofs.Options.{some-injective}
 use Rattle.abt_model.proofs.Telling.{keys-tell-models}
 use Rattle.abt_explore.specs.declared.exploration.End.{End}
 use Rattle.abt_explore.specs.declared.search.Found.{Found}
 use Rattle.abt_explore.specs.declared.search.Search.{Search}
 use Rattle.abt_explore.specs.declared.seen.Seen.{Seen}
 use Rattle.abt_explore.specs.Laws.{IsReachedBy}
+use Rattle.abt_explore.specs.Named.{IsPrivate}
 use Rattle.abt_explore.specs.Orders.{KeepsOrder}
-use Rattle.abt_explore.specs.Searches.{Grows, IsMet, IsSearching, Meets, SeesAfter, SeesAfterEach, SeesNext, SeesStart, Waits, journal_to, sees}
+use Rattle.abt_explore.specs.Searches.{Grows, IsMet, IsSearching, Meets, SeesAfter, SeesAfterEach, SeesNext, SeesOne, SeesStart, TellsAll, Waits, journal_to, sees}
 use Rattle.abt_explore.specs.Seen.{IsAdded, has}
 use Rattle.abt_explore.specs.Unnumbered.{unnumbered_state}
+use Rattle.abt_explore.proofs.Owning.{private-moves, private-waits}
 use Rattle.abt_explore.proofs.Reaching.{done-reached, reached-after}
+use Rattle.abt_explore.proofs.SameEvents.{may-forgotten, may-numbered}
 use Rattle.abt_explore.proofs.SameValues.{stands-forgotten}
 use Rattle.abt_explore.proofs.Searching.{contains-none, contains-rest, searching-met, sees-grown}
 
@@ -122,6 +126,25 @@ module _ (W : Parts) (Z : Stored) (keeps : KeepsOrder W Z.orders) (found : Found
           meets.added.added,
           subst (λ (x
               : What). StandsFor W (unnumbered_state (after W S s x)) (unnumbered_model model)) same (stands-forgotten W (after W S s w) model done.stands),
+        )
+
+    -- a private event was tried alone, if no other of the stream may come
+    pub one-after : IsValid W → s < W.streams → TellsAll W Z found.model s hint → IsPrivate W s w → SeesOne W Z new found.model
+    one-after valid declared only private S is_after stands =
+        let makes_here = makes 0 S is_after stands in
+        let done : IsDone W Z 0 S s w model = subst (λ (o : Option What). IfSome o (λ x. IsDone W Z 0 S s x model)) is makes_here.done in (
+          s,
+          w,
+          (λ T sound same.
+              let may : May W Z T s w = may-numbered W Z keeps T s w (subst (λ (R : State). May W Z R s w) (sym same) done.may) in
+              record {
+                declared = declared;
+                only = λ v other. let told : made ≡ Some v = makes_here.told v (subst (λ (R : State). May W Z R s v) same (may-forgotten W Z keeps T s v other))
+                    (only S v is_after stands (subst (λ (R : State). May W Z R s v) same (may-forgotten W Z keeps T s v other))) in some-injective (sym told ∙ is);
+                no_miss = private-moves W s w private;
+                waits = private-waits W valid Z T s declared w private may;
+              }),
+          (unnumbered_model model, meets.added.added, stands-forgotten W (after W S s w) model done.stands),
         )
 
     module _ (valid : IsValid W) (stored : OrdersStored W Z.orders) (declared : s < W.streams) (met : IsMet W Z old.paths found) where

@@ -1,4 +1,5 @@
 pub mod Adding
+pub mod AlikeRuns
 pub mod Changing
 pub mod Counting
 pub mod Ending
@@ -7,6 +8,7 @@ pub mod Following
 pub mod Forgotten
 pub mod Growing
 pub mod Meeting
+pub mod Owning
 pub mod Reaching
 pub mod SameChanges
 pub mod SameEvents

@@ -13,19 +13,18 @@ use Rattle.abt_machine.specs.Events.{After, May, after}
 use Rattle.abt_machine.specs.Runs.{Run, RunFrom, last_state, state_after}
 use Rattle.abt_machine.specs.Outcomes.{Quiet}
 use Rattle.abt_machine.specs.Sound.{Sound}
-use Rattle.abt_laws.specs.Laws.{IsMiss}
 use Rattle.abt_laws.proofs.Quiet.{quiet-stays}
 use Rattle.abt_laws.proofs.SoundRuns.{events-keep-sound}
 use Rattle.abt_laws.proofs.SoundStart.{start-is-sound}
 use Rattle.abt_model.specs.Models.{ModelValue, StandsFor}
-use Rattle.abt_explore.specs.Alone.{AreAllTried, AreClosedToEnds, IsAlone}
+use Rattle.abt_explore.specs.Alone.{AreAllTried, AreClosedToEnds, IsAlone, IsWithout}
 use Rattle.abt_explore.specs.Laws.{SeesState}
 use Rattle.abt_explore.specs.Orders.{KeepsOrder}
 use Rattle.abt_explore.specs.Unnumbered.{unnumbered_state}
 use Rattle.abt_explore.proofs.SameChanges.{after-same}
-use Rattle.abt_explore.proofs.SameEvents.{may-forgotten, may-numbered}
+use Rattle.abt_explore.proofs.SameEvents.{may-forgotten}
 use Rattle.abt_explore.proofs.SameSound.{after-forgotten}
-use Rattle.abt_explore.proofs.Waiting.{FirstOf, IsShortened, IsWithout, first-of, miss-site, shortened, stays-along}
+use Rattle.abt_explore.proofs.Waiting.{FirstOf, IsShortened, first-of, shortened}
 
 -- n events that lead from a sound state to one in which nothing is left to do
 record IsToEnd (W : Parts) (Z : Stored) (n : ℕ) (S : State) (K : List Event) : Type 0 where
@@ -62,23 +61,16 @@ module _ (W : Parts) (Z : Stored) (valid : IsValid W) (stored : OrdersStored W Z
         (record { long = omega arith; sound = sound-after W Z valid stored S e.stream.0 e.what declared goes.sound may; run = goes.run.2; quiet = goes.quiet })
         (sees-numbered S e.stream.0 e.what (all e.stream.0 e.what declared (may-forgotten W Z keeps S e.stream.0 e.what may)))
 
-    module _ (S : State) (K : List Event) (s : ℕ) (w : What) (goes : IsToEnd W Z (suc n) S K) (alone : IsAlone W Z (unnumbered_state S) s w) (sees : SeesState W IsSeen (after W (unnumbered_state S) s w)) where
-      may-come : May W Z S s w
-      may-come = may-numbered W Z keeps S s w alone.may
-
-      -- with numbers of rounds too
-      stays-alone : IsAlone W Z S s w
-      stays-alone = record { declared = alone.declared; may = may-come; only = λ v other. alone.only v (may-forgotten W Z keeps S s v other); local = alone.local }
-
+    module _ (S : State) (K : List Event) (s : ℕ) (w : What) (goes : IsToEnd W Z (suc n) S K) (alone : IsAlone W Z S s w) (sees : SeesState W IsSeen (after W (unnumbered_state S) s w)) where
       -- if one is tried alone, and is among these, it may come first
       met-among : FirstOf s K → SeesState W IsSeen (state_after W S K)
       met-among first =
-          let short : IsShortened W Z S s w K = shortened W valid Z S s w stays-alone K goes.run first in
+          let short : IsShortened W Z S s w K = shortened W valid Z S (λ J run. sound-along W Z valid stored S J goes.sound run) s w alone K goes.run first in
           let many : suc (length short.rest) ≡ length K = short.shorter in
           let all : length K ≡ suc n = goes.long in
           subst (SeesState W IsSeen) short.same (shorter (after W S s w) short.rest (record {
             long = omega arith;
-            sound = sound-after W Z valid stored S s w alone.declared goes.sound may-come;
+            sound = sound-after W Z valid stored S s w alone.declared goes.sound (alone.waits.stays [] tt tt);
             run = short.run;
             quiet = subst (Quiet W) (sym short.same) goes.quiet;
           }) (sees-numbered S s w sees))
@@ -87,10 +79,9 @@ module _ (W : Parts) (Z : Stored) (valid : IsValid W) (stored : OrdersStored W Z
       none-without : IsWithout s K → ⊥
       none-without without =
           let end : State = state_after W S K in
-          let there : May W Z end s w = stays-along W valid Z s w alone.local S K without goes.run may-come in
+          let there : May W Z end s w = alone.waits.stays K without goes.run in
           let step : After W Z end (event_of s w) (after W end s w) = (alone.declared, there, refl) in
-          let miss : IsMiss w = (quiet-stays W Z end (after W end s w) (event_of s w) (sound-along W Z valid stored S K goes.sound goes.run) goes.quiet step).0 in
-          miss-site W s w miss alone.local
+          alone.no_miss (quiet-stays W Z end (after W end s w) (event_of s w) (sound-along W Z valid stored S K goes.sound goes.run) goes.quiet step).0
 
       met-by-one : SeesState W IsSeen (state_after W S K)
       met-by-one = elim (first-of s K) [ inl first ↦ met-among first | inr without ↦ absurd (none-without without) ]
@@ -103,7 +94,7 @@ module _ (W : Parts) (Z : Stored) (valid : IsValid W) (stored : OrdersStored W Z
     met-from (suc n) S (e ∷ es) goes seen =
         elim (closed (unnumbered_state S) seen.0 (after-forgotten W Z keeps S goes.sound) seen.2 seen.1) [
           | inl all ↦ met-by-all n (met-from n) S e es goes all
-          | inr one ↦ met-by-one n (met-from n) S (e ∷ es) one.0 one.1 goes one.2 one.3
+          | inr one ↦ met-by-one n (met-from n) S (e ∷ es) one.0 one.1 goes (one.2 S goes.sound refl) one.3
         ]
 
     -- from the start

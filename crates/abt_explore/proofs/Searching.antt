@@ -9,7 +9,6 @@ use Rattle.abt_machine.specs.declared.events.Event.{Event}
 use Rattle.abt_machine.specs.declared.events.What.{What}
 use Rattle.abt_machine.specs.Stored.{Stored}
 use Rattle.abt_machine.specs.declared.workload.Parts.{Parts}
-use Rattle.abt_machine.specs.Events.{after}
 use Rattle.abt_machine.specs.State.{State}
 use Rattle.abt_model.specs.Models.{ModelValue}
 use Rattle.abt_model.specs.Keys.{model_key}
@@ -18,7 +17,7 @@ use Rattle.abt_explore.specs.declared.search.Search.{Search}
 use Rattle.abt_explore.specs.declared.exploration.End.{End}
 use Rattle.abt_explore.specs.Explored.{AreApart, AreDistinctEnds, key_bytes}
 use Rattle.abt_explore.specs.Laws.{IsReachedBy, next_event}
-use Rattle.abt_explore.specs.Searches.{AreFound, Grows, HasMet, IsExpanded, IsMet, IsSearching, Meets, Sees, Waits, event_after, found_after, journal_to, sees}
+use Rattle.abt_explore.specs.Searches.{AreFound, Grows, HasMet, IsExpanded, IsMet, IsSearching, Meets, Sees, SeesAll, SeesOne, Waits, event_after, found_after, journal_to, sees}
 use Rattle.abt_model.proofs.Telling.{keys-tell-models}
 use Rattle.abt_explore.proofs.Growing.{push-cases}
 
@@ -65,11 +64,16 @@ module _ (W : Parts) (Z : Stored) where
   pub sees-grown : (old new : Search) (S : State) → Grows old new → Sees W old S → Sees W new S
   sees-grown old new S grows here = (here.0, grows.seen here.0 here.1, here.2)
 
+  -- events that were tried stay so
+  tried-kept : (old new : Search) (model : ModelValue) → ((m : ModelValue) → IsTrue (sees old m) → IsTrue (sees new m)) → SeesAll W Z old model ⊎ SeesOne W Z old model → SeesAll W Z new model ⊎ SeesOne W Z new model
+  tried-kept old new model seen (inl all) = inl (λ s declared S w is_after stands may. let here = all s declared S w is_after stands may in (here.0, seen here.0 here.1, here.2))
+  tried-kept old new model seen (inr one) = inr (λ S is_after stands. let here = one S is_after stands in (here.0, here.1, here.2, (here.3.0, seen here.3.0 here.3.1, here.3.2)))
+
   -- what is expanded stays so
   pub expanded-kept : (old new : Search) (model : ModelValue) → ((m : ModelValue) → IsTrue (sees old m) → IsTrue (sees new m)) → ((end : End) → Contains old.ends.items end → Contains new.ends.items end)
       → IsExpanded W Z old model → IsExpanded W Z new model
   expanded-kept old new model seen ends expanded = record {
-    next = λ s declared S w is_after stands may. let here = expanded.next s declared S w is_after stands may in (here.0, seen here.0 here.1, here.2);
+    next = tried-kept old new model seen expanded.next;
     listed = λ S sound stands quiet. let end = expanded.listed S sound stands quiet in (end.0, ends end.0 end.1, end.2);
   }
 

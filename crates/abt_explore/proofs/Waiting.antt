@@ -1,136 +1,118 @@
--- An event that touches no object waits while other streams go on, and may come before what they do.
-use Rattle.std.proofs.Common.{◌≡◌, ◌≢◌, ◌<◌, ◌+◌, ℕ, suc, List, [], ◌∷◌, ◌++◌, length, length-append, Option, Some, None, refl, ap, sym, ◌∙◌, subst, arith, ◌⊎◌, inl, inr}
+-- An event that waits may come before what other streams do.
+use Rattle.std.proofs.Common.{◌≡◌, ◌<◌, ◌+◌, ◌-◌, ◌⊎◌, ◌∙◌, ℕ, suc, List, [], ◌∷◌, ◌++◌, length, length-append, Option, Some, None, ap, arith, inl, inr, refl, subst, sym}
 use Rattle.std.proofs.lemmas.Bool.{cases_eq}
 use Rattle.abt_machine.specs.declared.events.Event.{Event}
-use Rattle.abt_machine.specs.declared.events.Site.{Site}
+use Rattle.abt_machine.specs.declared.events.Place.TheVariants as place
 use Rattle.abt_machine.specs.declared.events.What.{What}
 use Rattle.abt_machine.specs.declared.events.What.TheVariants as what
-use Rattle.abt_machine.specs.declared.operations.Op.{Op}
-use Rattle.abt_machine.specs.declared.operations.Op.TheVariants as op
-use Rattle.abt_machine.specs.Stored.{IsNoCall, Returns, Stored}
+use Rattle.abt_machine.specs.declared.numbers.PoolNo.{PoolNo}
+use Rattle.abt_machine.specs.Stored.{Returns, Stored}
 use Rattle.abt_machine.specs.declared.workload.Parts.{Parts}
-use Rattle.abt_machine.specs.Numbers.{stream_no}
+use Rattle.abt_machine.specs.Codes.{code_at}
+use Rattle.abt_machine.specs.Numbers.{stream_no, unit_no}
+use Rattle.abt_machine.specs.Queues.{first}
+use Rattle.abt_machine.specs.Rounds.{IsNextPool}
+use Rattle.abt_machine.specs.Sound.{Sound}
 use Rattle.abt_machine.specs.Valid.{IsValid}
 use Rattle.abt_machine.specs.Workloads.{op_at}
-use Rattle.abt_machine.specs.EventSites.{event_site, step_site, what_site}
-use Rattle.abt_machine.specs.Events.{May, after, change}
-use Rattle.abt_machine.specs.Next.{Due, EnterDue, LeaveDue, StepDue, due}
-use Rattle.abt_machine.specs.Lines.{hand}
+use Rattle.abt_machine.specs.Events.{May, after}
+use Rattle.abt_machine.specs.Fronts.{front}
+use Rattle.abt_machine.specs.Lines.{InTray, hand}
+use Rattle.abt_machine.specs.Next.{RoundDue, due}
 use Rattle.abt_machine.specs.Runs.{RunFrom, state_after}
-use Rattle.abt_machine.specs.State.{Carried, State}
-use Rattle.abt_laws.specs.Footprint.{Apart}
-use Rattle.abt_laws.specs.Laws.{IsMiss}
-use Rattle.abt_laws.proofs.Alike.{IsAlike, alike-after, alike-sym}
-use Rattle.abt_laws.proofs.AlikeEvents.{may-alike}
-use Rattle.abt_laws.proofs.Commute.{events-commute}
-use Rattle.abt_laws.proofs.LocalEvents.{event-local}
-use Rattle.abt_laws.proofs.Options.{none≢some, some-injective}
+use Rattle.abt_machine.specs.State.{Carried, State, Stream}
+use Rattle.abt_bounds.specs.Laws.{returned, visited}
+use Rattle.abt_bounds.proofs.Choosing.{one-at-each-pool}
+use Rattle.abt_laws.specs.Footprint.{Within, holder}
+use Rattle.abt_laws.proofs.Alike.{IsAlike, caller-alike, due-alike, hand-alike, next-alike, standing-alike}
+use Rattle.abt_laws.proofs.Keeping.{IsKept, first-kept}
 use Rattle.abt_laws.proofs.RunParts.{run-front, run-join, run-rest, state_after-append}
-use Rattle.abt_explore.specs.Alone.{IsAlone}
+use Rattle.abt_explore.specs.Alone.{IsAlone, IsWithout, Waits}
+use Rattle.abt_explore.proofs.AlikeRuns.{alike-alone}
 
--- Events without a site.
+-- Events of one kind.
 
--- a miss has one
-pub miss-site : (W : Parts) (s : ℕ) (w : What) → IsMiss w → what_site W s w ≡ None → ⊥
-miss-site W s (what.Miss p) miss none = none≢some (sym none)
-miss-site W s w miss none = miss
+-- an event of the stream that visits the same pool and returns the same word, if any, may come in state S
+abbrev HasBefore : Parts → Stored → State → ℕ → What → Type 0
+HasBefore W Z S s v = (w : What) × May W Z S s w × (visited w ≡ visited v) × (returned w ≡ returned v)
 
--- what is due need not touch an object
-abbrev IsLocalDue : Due → Type 0
-IsLocalDue StepDue = Unit {0}
-IsLocalDue EnterDue = Unit {0}
-IsLocalDue LeaveDue = Unit {0}
-IsLocalDue _ = ⊥
+module _ (W : Parts) (Z : Stored) (S T : State) (s : ℕ) (alike : IsAlike W s None S T) where
+  due-before : due W S s ≡ due W T s
+  due-before = due-alike W s None S T alike
 
-call-no-call : (Z : Stored) (o : Option Op) (u n : ℕ) (c : Carried) → Returns Z o u c n → IsNoCall o → ⊥
-call-no-call Z (Some (op.Call f)) u n c returns own = own
-call-no-call Z o u n c returns own = returns
+  hand-before : hand W S s ≡ hand W T s
+  hand-before = hand-alike W s None S T alike
 
-module _ (W : Parts) (Z : Stored) (S : State) (s : ℕ) where
-  local-due : (w : What) → May W Z S s w → what_site W s w ≡ None → IsLocalDue (due W S s)
-  local-due (what.Step u k c) may none = subst IsLocalDue (sym may.0) tt
-  local-due (what.Call u k n) may none = subst IsLocalDue (sym may.0) tt
-  local-due (what.Enter u) may none = subst IsLocalDue (sym may.0) tt
-  local-due (what.Leave u) may none = subst IsLocalDue (sym may.0) tt
-  local-due w may none = absurd (none≢some (sym none))
+  carried-before : (u : ℕ) → hand W T s ≡ Some u → S.carried u ≡ T.carried u
+  carried-before u e = caller-alike W s None S T alike u (hand-before ∙ e)
 
-  -- the steps of one unit at one place have one site
-  step-sites : (u v k j : ℕ) → u ≡ v → k ≡ j → step_site W s u k ≡ step_site W s v j
-  step-sites u v k j units places = λ i. step_site W s (units i) (places i)
+  -- a round visits the same pools
+  visit-before : (p : ℕ) → IsNextPool W Z.orders (T.stream s).top p → IsNextPool W Z.orders (S.stream s).top p
+  visit-before p is = subst (λ (own : Stream). IsNextPool W Z.orders own.top p) (sym alike.stream) is
 
-  -- a step's unit and place are those of any other that may come
-  units-same : (u v : ℕ) → hand W S s ≡ Some u → hand W S s ≡ Some v → v ≡ u
-  units-same u v a b = some-injective (sym b ∙ a)
+  round-before : (p : PoolNo) (o : Option ℕ) → front W S s p.0 ≡ o → due W T s ≡ RoundDue → IsNextPool W Z.orders (T.stream s).top p.0 → HasBefore W Z S s (what.Miss p)
+  round-before p None is round next = (what.Miss p, (due-before ∙ round, is, visit-before p.0 next), refl, refl)
+  round-before p (Some u) is round next = (what.Take p (unit_no u), (due-before ∙ round, is, visit-before p.0 next), refl, refl)
 
-  -- if one event of the stream that may come has no site, no other has
-  pub none-sited : (w v : What) → May W Z S s w → May W Z S s v → what_site W s w ≡ None → what_site W s v ≡ None
-  none-sited w (what.Call u k n) a b none = refl
-  none-sited w (what.Enter u) a b none = refl
-  none-sited w (what.Leave u) a b none = refl
-  none-sited (what.Step u k c) (what.Step v j d) a b none =
-      let units : v.0 ≡ u.0 = units-same u.0 v.0 a.1 b.1 in
-      step-sites v.0 u.0 j k units (sym b.2 ∙ (ap (λ i. (S.carried i).position) units ∙ a.2)) ∙ none
-  none-sited (what.Call u k n) (what.Step v j d) a b none =
-      let units : v.0 ≡ u.0 = units-same u.0 v.0 a.1 b.1 in
-      let places : j ≡ k = sym b.2 ∙ (ap (λ i. (S.carried i).position) units ∙ a.2) in
-      let own : IsNoCall (op_at W u.0 k) = subst (λ (q : ℕ × ℕ). IsNoCall (op_at W q.0 q.1)) (λ i. (units i, places i)) b.4 in
-      absurd (call-no-call Z (op_at W u.0 k) u.0 n (S.carried u.0) a.3 own)
-  none-sited (what.Enter u) (what.Step v j d) a b none = let e : EnterDue ≡ StepDue = sym a.0 ∙ b.0 in cc
-  none-sited (what.Leave u) (what.Step v j d) a b none = let e : LeaveDue ≡ StepDue = sym a.0 ∙ b.0 in cc
-  none-sited w (what.Step v j d) a b none = absurd (none≢some (sym none))
-  none-sited w (what.Miss p) a b none = absurd (subst IsLocalDue b.0 (local-due w a none))
-  none-sited w (what.Take p u) a b none = absurd (subst IsLocalDue b.0 (local-due w a none))
-  none-sited w (what.Look u) a b none = absurd (subst IsLocalDue b.0 (local-due w a none))
-  none-sited w (what.Put u p) a b none = absurd (subst IsLocalDue b.0 (local-due w a none))
-  none-sited w (what.End u c) a b none = absurd (subst IsLocalDue b.0 (local-due w a none))
+  -- if the stream holds the same, each of its events has one of its kind that may come before
+  pub has-before : (v : What) → May W Z T s v → HasBefore W Z S s v
+  has-before (what.Miss p) may = round-before p (front W S s p.0) refl may.0 may.2
+  has-before (what.Take p u) may = round-before p (front W S s p.0) refl may.0 may.2
+  has-before (what.Look u) may = (what.Look u, (due-before ∙ may.0, next-alike W s None S T alike ∙ may.1), refl, refl)
+  has-before (what.Step u k c) may = (
+    what.Step u k (code_at W S s u.0 (op_at W u.0 k)),
+    (due-before ∙ may.0, hand-before ∙ may.1, ap (λ (c : Carried). c.position) (carried-before u.0 may.1) ∙ may.2, refl, may.4),
+    refl,
+    refl,
+  )
+  has-before (what.Call u k n) may =
+      let same : S.carried u.0 ≡ T.carried u.0 = carried-before u.0 may.1 in (
+        what.Call u k n,
+        (due-before ∙ may.0, hand-before ∙ may.1, ap (λ (c : Carried). c.position) same ∙ may.2, subst (λ c. Returns Z (op_at W u.0 k) u.0 c n) (sym same) may.3),
+        refl,
+        refl,
+      )
+  has-before (what.Put u p) may =
+      let kept : IsKept W T s None u.0 = first-kept W T s None (InTray s) u.0 refl may.1 in (
+        what.Put u p,
+        (due-before ∙ may.0, ap first (standing-alike W s None S T alike (InTray s) refl) ∙ may.1, ap (λ (c : Carried). c.home) (alike.units u.0 (inr kept)).1 ∙ may.2),
+        refl,
+        refl,
+      )
+  has-before (what.End u c) may = (what.End u c, (due-before ∙ may.0, hand-before ∙ may.1), refl, refl)
+  has-before (what.Enter u) may = (what.Enter u, (due-before ∙ may.0, hand-before ∙ may.1), refl, refl)
+  has-before (what.Leave u) may =
+      let kept : IsKept W T s None u.0 = subst (λ pl. Within s None (holder W u.0 pl)) (sym may.1) refl in (
+        what.Leave u,
+        (due-before ∙ may.0, (alike.units u.0 (inr kept)).0 ∙ (may.1 ∙ ap (λ (own : Stream). place.Frame (stream_no s) (length own.below - 1)) (sym alike.stream))),
+        refl,
+        refl,
+      )
 
--- Events of other streams.
+-- The event waits.
 
--- none of the events is of stream s
-abbrev pub IsWithout : ℕ → List Event → Type 0
-IsWithout s [] = Unit {0}
-IsWithout s (e ∷ es) = (e.stream.0 ≢ s) × IsWithout s es
-
-module _ (W : Parts) (valid : IsValid W) (Z : Stored) (s : ℕ) (w : What) (local : what_site W s w ≡ None) where
-  apart : (x : Option Site) → Apart x (what_site W s w)
-  apart x z e f = none≢some (sym local ∙ f)
-
-  -- an event of another stream leaves what the event sees
-  unseen : (S : State) (r : ℕ) (v : What) → r ≢ s → May W Z S r v → IsAlike W s (what_site W s w) S (after W S r v)
-  unseen S r v ne other = alike-after W S r s (what_site W r v) (what_site W s w) (change W S r v) ne (apart (what_site W r v)) (event-local W valid Z S r v other)
-
-  -- so it may still come
-  stays : (S : State) (r : ℕ) (v : What) → r ≢ s → May W Z S r v → May W Z S s w → May W Z (after W S r v) s w
-  stays S r v ne other may = may-alike W valid Z S (after W S r v) s w (unseen S r v ne other) may
-
-  pub stays-along : (S : State) (K : List Event) → IsWithout s K → RunFrom W Z S K → May W Z S s w → May W Z (state_after W S K) s w
-  stays-along S [] without run may = may
-  stays-along S (f ∷ fs) without run may = stays-along (after W S f.stream.0 f.what) fs without.1 run.2 (stays S f.stream.0 f.what without.0 run.1 may)
-
-  -- and it could come before, if it may come then
-  pub came-along : (S : State) (K : List Event) → IsWithout s K → RunFrom W Z S K → May W Z (state_after W S K) s w → May W Z S s w
-  came-along S [] without run may = may
-  came-along S (f ∷ fs) without run may =
-      let T : State = after W S f.stream.0 f.what in
-      may-alike W valid Z T S s w (alike-sym W s (what_site W s w) S T (unseen S f.stream.0 f.what without.0 run.1)) (came-along T fs without.1 run.2 may)
+module _ (W : Parts) (Z : Stored) (s : ℕ) (w : What) where
+  -- it waits after an event of another stream
+  waits-later : (S : State) (f : Event) → f.stream.0 < W.streams → (f.stream.0 ≡ s → ⊥) → May W Z S f.stream.0 f.what → Waits W Z S s w → Waits W Z (after W S f.stream.0 f.what) s w
+  waits-later S f declared other may waits = record {
+    stays = λ K without run. waits.stays (f ∷ K) (other, without) (declared, may, run);
+    swaps = λ K r v without run there ne later. waits.swaps (f ∷ K) r v (other, without) (declared, may, run) there ne later;
+  }
 
   -- if it comes first, they may follow, with the same state after all
   pub record ComesFirst (S : State) (K : List Event) : Type 0 where
     pub run : RunFrom W Z (after W S s w) K
     pub same : state_after W (after W S s w) K ≡ after W (state_after W S K) s w
 
-  pub comes-first : (S : State) (K : List Event) → s < W.streams → IsWithout s K → RunFrom W Z S K → May W Z S s w → ComesFirst S K
-  comes-first S [] declared without run may = record { run = tt; same = refl }
-  comes-first S (f ∷ fs) declared without run may =
+  pub comes-first : (S : State) (K : List Event) → Waits W Z S s w → IsWithout s K → RunFrom W Z S K → ComesFirst S K
+  comes-first S [] waits without run = record { run = tt; same = refl }
+  comes-first S (f ∷ fs) waits without run =
       let T : State = after W S f.stream.0 f.what in
-      let e : Event = record { stamp = 0; stream = stream_no s; what = w } in
-      let later : May W Z T s w = stays S f.stream.0 f.what without.0 run.1 may in
-      let swap = events-commute W valid Z S T (after W T s w) f e without.0 (apart (event_site W f)) (run.0, run.1, refl) (declared, later, refl) in
-      let first : swap.0 ≡ after W S s w = swap.1.2 in
-      let same : after W T s w ≡ after W (after W S s w) f.stream.0 f.what = swap.2.2 ∙ ap (λ (R : State). after W R f.stream.0 f.what) first in
-      let rest : ComesFirst T fs = comes-first T fs declared without.1 run.2 later in
+      let swap = waits.swaps [] f.stream.0 f.what tt tt run.0 without.0 run.1 in
+      let same : after W T s w ≡ after W (after W S s w) f.stream.0 f.what = sym swap.same in
+      let rest : ComesFirst T fs = comes-first T fs (waits-later S f run.0 without.0 run.1 waits) without.1 run.2 in
       record {
-        run = (run.0, subst (λ (R : State). May W Z R f.stream.0 f.what) first swap.2.1, subst (λ (R : State). RunFrom W Z R fs) same rest.run);
+        run = (run.0, swap.may, subst (λ (R : State). RunFrom W Z R fs) same rest.run);
         same = ap (λ (R : State). state_after W R fs) (sym same) ∙ rest.same;
       }
 
@@ -164,15 +146,16 @@ pub record IsShortened (W : Parts) (Z : Stored) (S : State) (s : ℕ) (w : What)
   pub run : RunFrom W Z (after W S s w) rest
   pub same : state_after W (after W S s w) rest ≡ state_after W S K
 
-module _ (W : Parts) (valid : IsValid W) (Z : Stored) (S : State) (s : ℕ) (w : What) (alone : IsAlone W Z S s w) where
+module _ (W : Parts) (valid : IsValid W) (Z : Stored) (S : State) (sounds : (K : List Event) → RunFrom W Z S K → Sound W Z (state_after W S K)) (s : ℕ) (w : What) (alone : IsAlone W Z S s w) where
   -- what the stream does first is the event
   first-is : (K : List Event) (v : What) → IsWithout s K → RunFrom W Z S K → May W Z (state_after W S K) s v → v ≡ w
   first-is K v without run other =
-      let none : what_site W s v ≡ None = none-sited W Z (state_after W S K) s w v (stays-along W valid Z s w alone.local S K without run alone.may) other alone.local in
-      alone.only v (came-along W valid Z s v none S K without run other)
+      let before = has-before W Z S (state_after W S K) s (alike-alone W valid Z s S K without run) v other in
+      let same : before.0 ≡ w = alone.only before.0 before.1 in
+      sym (one-at-each-pool W Z (state_after W S K) s w v (sounds K run) (alone.waits.stays K without run) other (ap visited (sym same) ∙ before.2) (ap returned (sym same) ∙ before.3))
 
   shortened-by : (front back : List Event) (v : What) → IsWithout s front → RunFrom W Z S front → May W Z (state_after W S front) s v → RunFrom W Z (after W (state_after W S front) s v) back
-      → ComesFirst W valid Z s w alone.local S front
+      → ComesFirst W Z s w S front
       → RunFrom W Z (after W S s w) (front ++ back) × (state_after W (after W S s w) (front ++ back) ≡ state_after W (after W (state_after W S front) s v) back)
   shortened-by front back v without run other behind first =
       let same : after W (state_after W S front) s v ≡ state_after W (after W S s w) front = ap (after W (state_after W S front) s) (first-is front v without run other) ∙ sym first.same in (
@@ -187,7 +170,7 @@ module _ (W : Parts) (valid : IsValid W) (Z : Stored) (S : State) (s : ℕ) (w :
       let behind : RunFrom W Z (state_after W S f.front) (f.event ∷ f.back) = run-rest W Z S f.front (f.event ∷ f.back) whole in
       let other : May W Z (state_after W S f.front) s f.event.what = subst (λ r. May W Z (state_after W S f.front) r f.event.what) f.own behind.1 in
       let later : RunFrom W Z (after W (state_after W S f.front) s f.event.what) f.back = subst (λ r. RunFrom W Z (after W (state_after W S f.front) r f.event.what) f.back) f.own behind.2 in
-      let both = shortened-by f.front f.back f.event.what f.without before other later (comes-first W valid Z s w alone.local S f.front alone.declared f.without before alone.may) in
+      let both = shortened-by f.front f.back f.event.what f.without before other later (comes-first W Z s w S f.front alone.waits f.without before) in
       record {
         rest = f.front ++ f.back;
         shorter =

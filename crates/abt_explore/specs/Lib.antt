@@ -1,6 +1,7 @@
 pub mod Alone
 pub mod Explored
 pub mod Laws
+pub mod Named
 pub mod Orders
 pub mod Paths
 pub mod Same

@@ -18,6 +18,7 @@ use Rattle.abt_model.specs.Hints.{IsHint}
 use Rattle.abt_model.specs.Models.{IsAfter, ModelValue, StandsFor}
 use Rattle.abt_model.specs.Keys.{model_key}
 use Rattle.abt_model.specs.Pictures.{SaysWords}
+use Rattle.abt_explore.specs.Alone.{IsOneTried}
 use Rattle.abt_explore.specs.declared.exploration.End.{End}
 use Rattle.abt_explore.specs.declared.exploration.Exploration.{Exploration}
 use Rattle.abt_explore.specs.declared.exploration.Exploration.TheVariants as exploration
@@ -61,13 +62,21 @@ Waits search model = (found : Found) × Contains search.waiting.items found × (
 abbrev pub SeesAfter : Parts → Stored → Search → ModelValue → ℕ → What → Type 0
 SeesAfter W Z search model s hint = (S : State) (w : What) → IsAfter W Z 0 S → StandsFor W S model → May W Z S s w → IsHint hint w → Sees W search (after W S s w)
 
--- the same of each of the hints
+-- the hint tells each event of stream s that may come in what the model stands for
+abbrev pub TellsAll : Parts → Stored → ModelValue → ℕ → What → Type 0
+TellsAll W Z model s hint = (S : State) (w : What) → IsAfter W Z 0 S → StandsFor W S model → May W Z S s w → IsHint hint w
+
+-- of each of the hints the search has seen what it tells leads to
 abbrev pub SeesAfterEach : Parts → Stored → Search → ModelValue → ℕ → List What → Type 0
 SeesAfterEach W Z search model s hints = (hint : What) → Contains hints hint → SeesAfter W Z search model s hint
 
 -- whatever may come of stream s in what the model stands for, the search has seen what it leads to
 abbrev pub SeesNext : Parts → Stored → Search → ModelValue → ℕ → Type 0
 SeesNext W Z search model s = (S : State) (w : What) → IsAfter W Z 0 S → StandsFor W S model → May W Z S s w → Sees W search (after W S s w)
+
+-- in whatever the model stands for, one event may be tried alone, and the search has seen what it leads to
+abbrev pub SeesOne : Parts → Stored → Search → ModelValue → Type 0
+SeesOne W Z search model = (S : State) → IsAfter W Z 0 S → StandsFor W S model → IsOneTried W Z (λ m. IsTrue (sees search m)) S
 
 -- Ends.
 
@@ -92,9 +101,13 @@ ListsEnd W Z ends model = (S : State) → Sound W Z S → StandsFor W S model �
 
 -- Searches.
 
--- the search has seen what each event that may come leads to, and has the end
+-- the search has seen what each event that may come leads to
+abbrev pub SeesAll : Parts → Stored → Search → ModelValue → Type 0
+SeesAll W Z search model = (s : ℕ) → s < W.streams → SeesNext W Z search model s
+
+-- the search has seen what each event that may come leads to, or one that may be tried alone, and has the end
 pub record IsExpanded (W : Parts) (Z : Stored) (search : Search) (model : ModelValue) : Type 0 where
-  pub next : (s : ℕ) → s < W.streams → SeesNext W Z search model s
+  pub next : SeesAll W Z search model ⊎ SeesOne W Z search model
   pub listed : ListsEnd W Z search.ends.items model
 
 -- these are the models that the search found, one for each journal: runs lead to what they show, no two are the same, they were

@@ -9,6 +9,7 @@ ghost use Rattle.abt_model.specs.Stored.{stored_with};
 ghost use Rattle.abt_order.specs.Stored.{shapes_of, stored_of};
 
 use crate::exploration::Exploration;
+use crate::named::named_units;
 use crate::search::Search;
 use abt_machine::{OrderShape, Want, Workload};
 use abt_model::shapes;
@@ -53,6 +54,7 @@ fn search_all<P: Work>(
     ensures { IfOk result (IsExplored w.now (stored_with z.now (P.returns work.now)) most) }
 {
     w.known();
+    let named = named_units(alloc, w)?;
     let mut search = Search::start(alloc, w)?;
     for states in 0..most {
         match search.take() {
@@ -61,7 +63,7 @@ fn search_all<P: Work>(
                 return Ok(Exploration::Whole { states, ends });
             }
             Some(found) => {
-                match search.expand(alloc, w, z, work, &found)? {
+                match search.expand(alloc, w, z, work, &named, &found)? {
                     Some(function) => return Ok(Exploration::AnyWord { function }),
                     None => {}
                 }

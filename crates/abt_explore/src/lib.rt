@@ -4,6 +4,7 @@
 mod exploration;
 mod exploring;
 mod laws;
+mod named;
 mod orders;
 mod paths;
 mod same;

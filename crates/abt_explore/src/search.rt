@@ -1,18 +1,23 @@
 //! A search of all interleavings, breadth first.
 
-ghost use Rattle.std.specs.Prelude.{ℕ, ◌≡◌, ◌<◌, ◌≤◌, ◌∷◌, ◌++◌, [], IfOk, OnOk, IfSome, IfNone, MatchOption, List, None, Option, Some, get_or, length};
+ghost use Rattle.std.specs.Prelude.{ℕ, ◌≡◌, ◌<◌, ◌≤◌, ◌∷◌, ◌++◌, [], IfOk, OnOk, IfSome, IfNone, MatchOption, List, None, Option, Some, get_or, is_some, length};
+ghost use Rattle.std.specs.Bool.{OnTrue};
+ghost use Rattle.abt_bounds.specs.Laws.{visited};
 ghost use Rattle.abt_explore.specs.Explored.{MayCallAny};
+ghost use Rattle.abt_explore.specs.Named.{MarksNamed};
 ghost use Rattle.abt_explore.specs.Orders.{KeepsOrder};
-ghost use Rattle.abt_explore.specs.Searches.{NotesIfQuiet, Grows, HasOutcome, IsMet, IsSearching, ListsEnd, Meets, Notes, SeesAfter, SeesAfterEach, SeesNext, SeesStart, Takes};
+ghost use Rattle.abt_explore.specs.Searches.{NotesIfQuiet, Grows, HasOutcome, IsMet, IsSearching, ListsEnd, Meets, Notes, SeesAfter, SeesAfterEach, SeesAll, SeesNext, SeesOne, SeesStart, Takes, TellsAll};
 ghost use Rattle.abt_machine.specs.Rounds.{OrdersStored};
 ghost use Rattle.abt_machine.specs.Sound.{Sound};
 ghost use Rattle.abt_machine.specs.State.{State};
 ghost use Rattle.abt_machine.specs.Stored.{CallsStored, Stored};
 ghost use Rattle.abt_machine.specs.Valid.{IsValid};
-ghost use Rattle.abt_model.specs.Models.{StandsFor};
+ghost use Rattle.abt_model.specs.Hints.{HasHints};
+ghost use Rattle.abt_model.specs.Models.{IsAfter, StandsFor};
 ghost use Rattle.abt_model.specs.Stored.{stored_with};
 
 use crate::exploration::End;
+use crate::named::is_private;
 use crate::paths::Paths;
 use crate::same::lists;
 use crate::seen::Seen;
@@ -61,20 +66,23 @@ impl Search {
         })
     }
 
-    /// Expands a model that was found: notes its end if nothing is left to do, and finds what each event that may come leads to;
-    /// or returns the number of a function that is to be called, and may return any word there. Out of memory is the only error.
+    /// Expands a model that was found: notes its end if nothing is left to do, and finds what one event leads to that may be tried
+    /// alone, or, if it knows of none, what each event leads to that may come; or returns the number of a function that is to be
+    /// called, and may return any word there. `named` marks the units that operations name. Out of memory is the only error.
     pub(crate) fn expand<P: Work>(
         &mut self,
         alloc: Global,
         w: &Workload,
         z: &[OrderShape],
         work: &P,
+        named: &[bool],
         found: &Found,
     ) -> Result<Option<u32>, Want>
         requires valid { IsValid w.now }
         requires stored { OrdersStored w.now z.now }
         requires calls { CallsStored w.now (P.count work.now) }
         requires keeps_order { KeepsOrder w.now z.now }
+        requires named { MarksNamed w.now named.now }
         requires met { IsMet w.now (stored_with z.now (P.returns work.now)) self.old.paths found.now }
         requires searching { IsSearching w.now (stored_with z.now (P.returns work.now)) (Some found.now.model) self.old }
         ensures grows { OnOk result (Grows self.old self.new) }
@@ -82,6 +90,9 @@ impl Search {
         ensures any { IfOk result (λ any. IfSome any (MayCallAny w.now (stored_with z.now (P.returns work.now)))) }
     {
         self.note_if_quiet(alloc, w, found)?;
+        if self.expand_one(alloc, w, z, work, named, found)? {
+            return Ok(None);
+        }
         let any = self.expand_streams(alloc, w, z, work, found)?;
         Ok(any)
     }
@@ -106,6 +117,135 @@ impl Search {
         ends
     }
 
+    // Finds what one event leads to that may be tried alone, and says whether there was one.
+    fn expand_one<P: Work>(
+        &mut self,
+        alloc: Global,
+        w: &Workload,
+        z: &[OrderShape],
+        work: &P,
+        named: &[bool],
+        found: &Found,
+    ) -> Result<bool, Want>
+        requires valid { IsValid w.now }
+        requires stored { OrdersStored w.now z.now }
+        requires calls { CallsStored w.now (P.count work.now) }
+        requires keeps_order { KeepsOrder w.now z.now }
+        requires named { MarksNamed w.now named.now }
+        requires met { IsMet w.now (stored_with z.now (P.returns work.now)) self.old.paths found.now }
+        requires searching { IsSearching w.now (stored_with z.now (P.returns work.now)) (Some found.now.model) self.old }
+        ensures grows { OnOk result (Grows self.old self.new) }
+        ensures searching { OnOk result (IsSearching w.now (stored_with z.now (P.returns work.now)) (Some found.now.model) self.new) }
+        ensures one { IfOk result (λ tried. OnTrue tried (SeesOne w.now (stored_with z.now (P.returns work.now)) self.new found.now.model)) }
+    {
+        for stream in 0..w.streams() {
+            if self.try_stream(alloc, w, z, work, named, found, StreamNo(stream))? {
+                return Ok(true);
+            }
+        }
+        Ok(false)
+    }
+
+    // Finds what the stream's event leads to, if one may come and may be tried alone, and says whether it did.
+    fn try_stream<P: Work>(
+        &mut self,
+        alloc: Global,
+        w: &Workload,
+        z: &[OrderShape],
+        work: &P,
+        named: &[bool],
+        found: &Found,
+        s: StreamNo,
+    ) -> Result<bool, Want>
+        requires valid { IsValid w.now }
+        requires stored { OrdersStored w.now z.now }
+        requires calls { CallsStored w.now (P.count work.now) }
+        requires keeps_order { KeepsOrder w.now z.now }
+        requires named { MarksNamed w.now named.now }
+        requires stream { s.0 < w.now.streams }
+        requires met { IsMet w.now (stored_with z.now (P.returns work.now)) self.old.paths found.now }
+        requires searching { IsSearching w.now (stored_with z.now (P.returns work.now)) (Some found.now.model) self.old }
+        ensures grows { OnOk result (Grows self.old self.new) }
+        ensures searching { OnOk result (IsSearching w.now (stored_with z.now (P.returns work.now)) (Some found.now.model) self.new) }
+        ensures one { IfOk result (λ tried. OnTrue tried (SeesOne w.now (stored_with z.now (P.returns work.now)) self.new found.now.model)) }
+    {
+        match found.model.choices(alloc, w, z, work, s)? {
+            Choices::AnyWord(_) => Ok(false),
+            Choices::These(hints) => self.try_hints(alloc, w, z, work, named, found, s, &hints),
+        }
+    }
+
+    // Finds what the stream's event leads to, if there is one hint, and it tells an event that may be tried alone, and says whether
+    // it did.
+    fn try_hints<P: Work>(
+        &mut self,
+        alloc: Global,
+        w: &Workload,
+        z: &[OrderShape],
+        work: &P,
+        named: &[bool],
+        found: &Found,
+        s: StreamNo,
+        hints: &[What],
+    ) -> Result<bool, Want>
+        requires valid { IsValid w.now }
+        requires stored { OrdersStored w.now z.now }
+        requires calls { CallsStored w.now (P.count work.now) }
+        requires keeps_order { KeepsOrder w.now z.now }
+        requires named { MarksNamed w.now named.now }
+        requires stream { s.0 < w.now.streams }
+        requires told { (S : State) → IsAfter w.now (stored_with z.now (P.returns work.now)) 0 S → StandsFor w.now S found.now.model → HasHints w.now (stored_with z.now (P.returns work.now)) S s.0 hints.now }
+        requires met { IsMet w.now (stored_with z.now (P.returns work.now)) self.old.paths found.now }
+        requires searching { IsSearching w.now (stored_with z.now (P.returns work.now)) (Some found.now.model) self.old }
+        ensures grows { OnOk result (Grows self.old self.new) }
+        ensures searching { OnOk result (IsSearching w.now (stored_with z.now (P.returns work.now)) (Some found.now.model) self.new) }
+        ensures one { IfOk result (λ tried. OnTrue tried (SeesOne w.now (stored_with z.now (P.returns work.now)) self.new found.now.model)) }
+    {
+        if hints.len() != 1 || is_visit(&hints[0]) {
+            return Ok(false);
+        }
+        self.try_hint(alloc, w, z, work, named, found, s, &hints[0])
+    }
+
+    // Finds what the stream's event leads to, which the hint tells, if it may be tried alone, and says whether it did.
+    fn try_hint<P: Work>(
+        &mut self,
+        alloc: Global,
+        w: &Workload,
+        z: &[OrderShape],
+        work: &P,
+        named: &[bool],
+        found: &Found,
+        s: StreamNo,
+        hint: &What,
+    ) -> Result<bool, Want>
+        requires valid { IsValid w.now }
+        requires stored { OrdersStored w.now z.now }
+        requires calls { CallsStored w.now (P.count work.now) }
+        requires keeps_order { KeepsOrder w.now z.now }
+        requires named { MarksNamed w.now named.now }
+        requires stream { s.0 < w.now.streams }
+        requires only { TellsAll w.now (stored_with z.now (P.returns work.now)) found.now.model s.0 hint.now }
+        requires met { IsMet w.now (stored_with z.now (P.returns work.now)) self.old.paths found.now }
+        requires searching { IsSearching w.now (stored_with z.now (P.returns work.now)) (Some found.now.model) self.old }
+        ensures grows { OnOk result (Grows self.old self.new) }
+        ensures searching { OnOk result (IsSearching w.now (stored_with z.now (P.returns work.now)) (Some found.now.model) self.new) }
+        ensures one { IfOk result (λ tried. OnTrue tried (SeesOne w.now (stored_with z.now (P.returns work.now)) self.new found.now.model)) }
+    {
+        let mut next = found.model.copy(alloc)?;
+        match next.make(w, z, work, s, hint)? {
+            None => Ok(false),
+            Some(what) => {
+                if !is_private(w, named, s, &what) {
+                    return Ok(false);
+                }
+                next.forget_rounds();
+                self.meet(found, s, what, next)?;
+                Ok(true)
+            }
+        }
+    }
+
     // Finds what each event of each stream that may come leads to.
     fn expand_streams<P: Work>(
         &mut self,
@@ -123,7 +263,7 @@ impl Search {
         requires searching { IsSearching w.now (stored_with z.now (P.returns work.now)) (Some found.now.model) self.old }
         ensures grows { OnOk result (Grows self.old self.new) }
         ensures searching { OnOk result (IsSearching w.now (stored_with z.now (P.returns work.now)) (Some found.now.model) self.new) }
-        ensures all { IfOk result (λ any. MatchOption any ((s : ℕ) → s < w.now.streams → SeesNext w.now (stored_with z.now (P.returns work.now)) self.new found.now.model s) (MayCallAny w.now (stored_with z.now (P.returns work.now)))) }
+        ensures all { IfOk result (λ any. MatchOption any (SeesAll w.now (stored_with z.now (P.returns work.now)) self.new found.now.model) (MayCallAny w.now (stored_with z.now (P.returns work.now)))) }
     {
         for s in 0..w.streams() {
             match self.expand_stream(alloc, w, z, work, found, StreamNo(s))? {
@@ -273,6 +413,16 @@ impl Search {
             picture,
         })?;
         Ok(())
+    }
+}
+
+// Whether the hint tells a visit of a pool.
+fn is_visit(hint: &What) -> bool
+    ensures { result ≡ is_some (visited hint.now) }
+{
+    match *hint {
+        What::Miss(_) | What::Take(_, _) => true,
+        _ => false,
     }
 }
 
