@@ -33,7 +33,7 @@ const WRITES: usize = 106;
 const NOT_READ: Row<'static> = Row {
     status: 5,
     out: "",
-    err: "abtrun: cannot read\n",
+    err: "abtrun: cannot read\nf: cannot be read\n",
     journal: Some(""),
     ..HI_RUN
 };

@@ -113,7 +113,7 @@ fn is_as_stored<R: Threads + Wait + Sync>(
 
 fn main(rt: HostRuntime) -> Result<(), Fail> {
     let alloc = rt.alloc();
-    let mut files = RealFiles::new(&rt);
+    let mut files = RealFiles::new(&rt, rt.alloc());
     for example in &EXAMPLES {
         let (_, output, _) = *example;
         let is = is_as_stored(&rt, alloc, &mut files, example)?;

@@ -5,7 +5,15 @@ use crate::rows::{Failing, NONE, ONE_POOL, RUN, Row};
 /// The words of a call that is refused, the head and the lines of its file, its status and its message.
 pub(crate) type Refusal = (&'static str, &'static str, &'static [u8], u8, &'static str);
 
-const BAD_WORDS: &str = "abtrun: bad command line\n";
+// What is said of words whose first is the name of no command.
+const BAD_WORDS: &str =
+    "abtrun: bad command line\nusage: abtrun run FILE [--steps V] [--journal] [--why] [--in-turn | --seed N]\nabtrun run FILE --schedule JOURNAL [--why]\nabtrun self N\nabtrun check WORKLOAD JOURNAL [--end]\nabtrun flow FILE\nabtrun explore FILE [--states M] [--end K [--journal]]\nabtrun --help\nabtrun --version\n";
+
+// And of those whose first is `run`, or `self`.
+const BAD_RUN: &str =
+    "abtrun: bad command line\nusage: abtrun run FILE [--steps V] [--journal] [--why] [--in-turn | --seed N]\nabtrun run FILE --schedule JOURNAL [--why]\n";
+
+const BAD_SELF: &str = "abtrun: bad command line\nusage: abtrun self N\n";
 
 /// Words, files and texts that are refused.
 pub(crate) static REFUSALS: [Refusal; 25] = [
@@ -60,13 +68,13 @@ pub(crate) static REFUSALS: [Refusal; 25] = [
     // bad words
     ("walk", "", b"", 2, BAD_WORDS),
     // bad words
-    ("run", "", b"", 2, BAD_WORDS),
+    ("run", "", b"", 2, BAD_RUN),
     // bad words
-    ("run f --steps 0", "", b"", 2, BAD_WORDS),
+    ("run f --steps 0", "", b"", 2, BAD_RUN),
     // bad words
-    ("run f --steps 100001", "", b"", 2, BAD_WORDS),
+    ("run f --steps 100001", "", b"", 2, BAD_RUN),
     // more steps than formats 1 and 2 allow, also of a text that would be refused
-    ("run f --steps 100001", "abt 2\n", b"walk\n", 2, BAD_WORDS),
+    ("run f --steps 100001", "abt 2\n", b"walk\n", 2, BAD_RUN),
     // as many as format 3 allows
     (
         "run f --steps 16777216",
@@ -76,25 +84,31 @@ pub(crate) static REFUSALS: [Refusal; 25] = [
         "abtrun: line 2: unknown\n",
     ),
     // more than it allows
-    ("run f --steps 16777217", "abt 3\n", b"", 2, BAD_WORDS),
+    ("run f --steps 16777217", "abt 3\n", b"", 2, BAD_RUN),
     // more steps than formats 1 and 2 allow, and no such file
     (
         "run none --steps 100001",
         "",
         b"",
         5,
-        "abtrun: cannot read\n",
+        "abtrun: cannot read\nnone: absent\n",
     ),
     // and more than any format allows
-    ("run none --steps 16777217", "", b"", 2, BAD_WORDS),
+    ("run none --steps 16777217", "", b"", 2, BAD_RUN),
     // bad words
-    ("run f g", "", b"", 2, BAD_WORDS),
+    ("run f g", "", b"", 2, BAD_RUN),
     // bad words
-    ("self 127", "", b"", 2, BAD_WORDS),
+    ("self 127", "", b"", 2, BAD_SELF),
     // bad words
-    ("self", "", b"", 2, BAD_WORDS),
+    ("self", "", b"", 2, BAD_SELF),
     // no such file
-    ("run none", "", b"", 5, "abtrun: cannot read\n"),
+    (
+        "run none",
+        "",
+        b"",
+        5,
+        "abtrun: cannot read\nnone: absent\n",
+    ),
     // nine streams
     (
         "run f",
@@ -133,16 +147,10 @@ pub(crate) static REFUSALS: [Refusal; 25] = [
         "",
         b"",
         2,
-        BAD_WORDS,
+        BAD_RUN,
     ),
     // bad words of 31 digits
-    (
-        "self 1000000000000000000000000000000",
-        "",
-        b"",
-        2,
-        BAD_WORDS,
-    ),
+    ("self 1000000000000000000000000000000", "", b"", 2, BAD_SELF),
 ];
 
 /// The row of a call that is refused: it puts nothing out, and answers no journal.

@@ -1,6 +1,6 @@
 -- From what is known of one file to what is known of a call.
 use Rattle.std.proofs.Common.{◌≡◌, ◌∙◌, ◌<◌, ◌≤◌, ℕ, List, length, map, Option, Some, None, inr, ap, refl, subst, sym, arith}
-use Rattle.std.specs.Prelude.{⊤}
+use Rattle.std.specs.Prelude.{IfSome, ⊤}
 use Rattle.std.proofs.lemmas.List.{length-map}
 use Rattle.abt_machine.specs.declared.events.Event.{Event}
 use Rattle.abt_machine.specs.declared.events.Outcome.{Outcome}
@@ -18,7 +18,7 @@ use Rattle.abt_shell.specs.declared.status.Stop.{Stop}
 use Rattle.abt_shell.specs.declared.status.Wrong.{Wrong}
 use Rattle.abt_shell.specs.declared.status.Wrong.TheVariants.{Workload, Journal, Lives}
 use Rattle.abt_shell.proofs.Fetched.{grew-later, stops-file, stops-more}
-use Rattle.abt_run.specs.Given.{Given, IsReadFrom, NamesFile, workload_file}
+use Rattle.abt_run.specs.Given.{Given, IsFileOf, IsNamed, IsReadFrom, NamesFile, workload_file}
 use Rattle.abt_run.specs.Prepared.{HasNoRun, HasNoWorkload, IsBadCommand, IsBadLine, IsNoWorkload, StopsCommand}
 use Rattle.abt_run.specs.Printed.{Prints, Ran}
 use Rattle.abt_run.specs.declared.keeping.Keep.{Keep}
@@ -41,6 +41,11 @@ one-file words d e f g one two names other = some-is f g (sym names ∙ (ap work
 -- or none
 pub no-file : (words : List Text) (d e : Command) (f : Text) → Says words d → Says words e → workload_file d ≡ Some f → workload_file e ≡ None → ⊥
 no-file words d e f one two names none = none-is f (sym none ∙ (ap workload_file (one-command words e d two one) ∙ names))
+
+-- the file of a command is one that its words name
+pub named : (words : List Text) (d : Command) (begun : Option Text) → Says words d → IfSome begun (IsFileOf d) → IfSome begun (IsNamed words)
+named words d None says its = tt
+named words d (Some file) says its = (d, says, its)
 
 -- why a file has no workload is why the call stops
 pub no-workload-stops : (s : Stop) (g : Given) (d : Command) (file : Text) (faults : ℕ × ℕ) → Says g.words d → workload_file d ≡ Some file → HasNoWorkload (g.file file) faults s → StopsCommand g faults s

@@ -16,6 +16,7 @@ use Rattle.abt_flow.specs.Flow.{IsFlow}
 use Rattle.abt_generate.specs.Generated.{generated}
 use Rattle.abt_report.specs.Journals.{IsTextOf}
 use Rattle.abt_shell.specs.Calls.{EndsBy, HasReadFault, IsStill, Left, Program}
+use Rattle.abt_shell.specs.More.{Adds}
 use Rattle.abt_shell.specs.Told.{Grew}
 use Rattle.abt_shell.specs.declared.status.Stop.{Stop}
 use Rattle.abt_words.specs.declared.commands.CheckWords.{CheckWords}
@@ -25,10 +26,10 @@ use Rattle.abt_words.specs.declared.commands.RunWords.{RunWords}
 use Rattle.abt_words.specs.declared.commands.Shows.{Shows}
 use Rattle.abt_words.specs.declared.commands.Shows.TheVariants as show
 use Rattle.abt_words.specs.Commands.{Says}
-use Rattle.abt_run.specs.Given.{Given, SaysNothing, Tells, workload_file}
+use Rattle.abt_run.specs.Given.{Given, IsNamed, SaysNothing, Tells, workload_file}
 use Rattle.abt_run.specs.Prepared.{StopsCommand}
 use Rattle.abt_run.specs.Printed.{Prints}
-use Rattle.abt_run.specs.Status.{name, number_of_conclusion, number_of_end}
+use Rattle.abt_run.specs.Status.{name, number_of_conclusion, number_of_end, usage_of}
 use Rattle.abt_run.specs.Steps.{AsksBeyond, ExceedsKnown, LetsStreams, MayMake}
 use Rattle.abt_run.specs.declared.keeping.Keep.{Keep}
 use Rattle.abt_run.specs.declared.status.Conclusion.{Conclusion}
@@ -56,6 +57,7 @@ program c = record {
   number = number_of_conclusion;
   Prints = λ conclusion text. Prints c.given c.keep conclusion c.journal text;
   Stops = IsStopped c;
+  Adds = Adds (usage_of c.given.words) (IsNamed c.given.words);
 }
 
 -- When each status must come, unless memory runs out.

@@ -1,5 +1,5 @@
 -- What a call of the program is given, and what its words ask for.
-use Rattle.std.specs.Prelude.{◌≡◌, List, Option, Some, None, IfSome}
+use Rattle.std.specs.Prelude.{◌≡◌, ◌⊎◌, List, Option, Some, None, IfSome}
 use Rattle.abt_machine.specs.Stored.{Stored}
 use Rattle.abt_machine.specs.declared.workload.Parts.{Parts}
 use Rattle.abt_machine.specs.Grammar.{Reads}
@@ -40,6 +40,20 @@ pub record NamesFile (words : List Text) : Type 0 where
   pub file : Text
   pub says : Says words command
   pub names : workload_file command ≡ Some file
+
+-- this is a file of the command
+abbrev pub IsFileOf : Command → Text → Type 0
+IsFileOf (command.Run w) file = file ≡ w.file
+IsFileOf (command.SelfRun units) file = ⊥
+IsFileOf (command.Check w) file = (file ≡ w.workload) ⊎ (file ≡ w.journal)
+IsFileOf (command.Flow flow) file = file ≡ flow
+IsFileOf (command.Explore w) file = file ≡ w.file
+IsFileOf command.Help file = ⊥
+IsFileOf command.Version file = ⊥
+
+-- the words name this file
+abbrev pub IsNamed : List Text → Text → Type 0
+IsNamed words file = (c : Command) × Says words c × IsFileOf c file
 
 -- and this holds of its bytes, if they are observable
 pub record NamesSuch (g : Given) (Is : Text → Type 0) : Type 0 where

@@ -36,10 +36,12 @@ use Rattle.abt_words.specs.declared.commands.Schedule.TheVariants as schedule
 use Rattle.abt_words.specs.declared.commands.Shows.{Shows}
 use Rattle.abt_words.specs.declared.commands.Shows.TheVariants as show
 use Rattle.abt_words.specs.Commands.{Says}
+use Rattle.abt_words.specs.declared.versions.Program.TheVariants as program_of
+use Rattle.abt_words.specs.Versions.{version_text}
 use Rattle.abt_run.specs.Ends.{ShowsEnds}
 use Rattle.abt_run.specs.Given.{Compares, Given, IsReadFrom}
 use Rattle.abt_run.specs.Kept.{keeps, needs_journal}
-use Rattle.abt_run.specs.Status.{help_text, version_text}
+use Rattle.abt_run.specs.Status.{help_text}
 use Rattle.abt_run.specs.Steps.{LetsStreams, MayMake}
 use Rattle.abt_run.specs.declared.keeping.Keep.{Keep}
 use Rattle.abt_run.specs.declared.status.Conclusion.{Conclusion}
@@ -217,4 +219,4 @@ Prints g keep Sticks answered text = ShowsEnds g Sticks text × (answered ≡ No
 Prints g keep GoesOn answered text = ShowsEnds g GoesOn text × (answered ≡ None)
 Prints g keep Unexplored answered text = ShowsEnds g Unexplored text × (answered ≡ None)
 Prints g keep Helps answered text = Says g.words command.Help × (text ≡ help_text) × (answered ≡ None)
-Prints g keep NamesVersion answered text = Says g.words command.Version × (text ≡ version_text) × (answered ≡ None)
+Prints g keep NamesVersion answered text = Says g.words command.Version × (text ≡ version_text program_of.Run) × (answered ≡ None)

@@ -1,6 +1,6 @@
 //! The command `check`.
 
-ghost use Rattle.std.specs.Prelude.{◌≡◌, ◌≢◌, ◌≤◌, ◌++◌, ℕ, IfErr, IfOk, IfSome, IsErrAnd, IsErrOf, All, List, None, OnOk, false, length, true};
+ghost use Rattle.std.specs.Prelude.{◌≡◌, ◌≢◌, ◌≤◌, ◌⊎◌, ◌++◌, ℕ, IfErr, IfOk, IfSome, IsErrAnd, IsErrOf, All, List, None, OnOk, false, length, true};
 ghost use Rattle.abt_machine.specs.Grammar.{Reads};
 ghost use Rattle.abt_machine.specs.declared.events.Event.{Event};
 ghost use Rattle.abt_machine.specs.Limits.{function_limit};
@@ -58,6 +58,7 @@ pub(crate) fn prepare_check<F: Files, P: Work>(
     ensures absent { F.absent files.old workload.now → IsErrOf result CannotRead }
     ensures missing { F.absent files.old journal.now → IsErrAnd result (LacksSecond (F.file files.old workload.now) (F.faults files.old, F.faults files.new)) }
     ensures faulty { F.faults files.new ≢ F.faults files.old → IsErrOf result CannotRead }
+    ensures begun { IfSome (F.begun files.new) (λ name. (name ≡ workload.now) ⊎ (name ≡ journal.now)) }
     ensures later { F.faults files.old ≤ F.faults files.new }
 {
     let (w, steps) = fetch_default(alloc, workload, files)?;
@@ -80,6 +81,7 @@ fn fetch_default<F: Files>(
     ensures faulty { F.faults files.new ≢ F.faults files.old → IsErrOf result CannotRead }
     ensures same { (name : List ℕ) → F.file files.new name ≡ F.file files.old name }
     ensures missing { (name : List ℕ) → F.absent files.old name → F.absent files.new name }
+    ensures begun { IfSome (F.begun files.new) (λ name. name ≡ file.now) }
     ensures later { F.faults files.old ≤ F.faults files.new }
 {
     fetch_run(alloc, file, None, files)

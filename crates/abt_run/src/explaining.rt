@@ -11,15 +11,10 @@ ghost use Rattle.abt_shell.specs.declared.status.Stop.TheVariants as why;
 
 use crate::prepared::{Prepared, without_run};
 use crate::status::Conclusion;
+use crate::usage::HELP;
 use abt_shell::Stop;
+use abt_words::{Program, version};
 use std::alloc::Global;
-
-// The program's words.
-const HELP: &[u8] =
-    b"abtrun run FILE [--steps V] [--journal] [--why] [--in-turn | --seed N]\nabtrun run FILE --schedule JOURNAL [--why]\nabtrun self N\nabtrun check WORKLOAD JOURNAL [--end]\nabtrun flow FILE\nabtrun explore FILE [--states M] [--end K [--journal]]\nabtrun --help\nabtrun --version\n";
-
-// The program's version.
-const VERSION: &[u8] = b"abtrun 1\n";
 
 /// The program's words.
 pub(crate) fn prepare_help(alloc: Global) -> Result<Prepared, Stop>
@@ -35,6 +30,6 @@ pub(crate) fn prepare_version(alloc: Global) -> Result<Prepared, Stop>
     ensures done { (g : Given) (keep : Keep) → Says g.words command.Version → IfOk result (λ p. Prints g keep p.conclusion p.journal p.text.items) }
     ensures stop { IfErr result (λ stop. stop ≡ why.OutOfMemory) }
 {
-    let text = Vec::from_slice(alloc, VERSION)?;
+    let text = Vec::from_slice(alloc, version(Program::Run))?;
     Ok(without_run(text, Conclusion::NamesVersion))
 }

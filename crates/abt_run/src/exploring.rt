@@ -1,6 +1,6 @@
 //! The command `explore`.
 
-ghost use Rattle.std.specs.Prelude.{◌≡◌, ◌≢◌, ◌≤◌, [], ◌∷◌, All, IfErr, IfOk, IsErrOf, List, codes, decimal, length, option_map};
+ghost use Rattle.std.specs.Prelude.{◌≡◌, ◌≢◌, ◌≤◌, [], ◌∷◌, All, IfErr, IfOk, IfSome, IsErrOf, List, codes, decimal, length, option_map};
 ghost use Rattle.std.specs.List.{list_any};
 ghost use Rattle.abt_explore.specs.Texts.{SaysWords};
 ghost use Rattle.abt_machine.specs.Limits.{function_limit};
@@ -50,6 +50,7 @@ pub(crate) fn prepare_explore<F: Files, P: Work>(
         → IfErr result (StopsCommand (given words (stored_of orders.now (P.returns work.now)) (λ name. F.file files.old name)) (F.faults files.old, F.faults files.new)) }
     ensures absent { F.absent files.old file.now → IsErrOf result CannotRead }
     ensures faulty { F.faults files.new ≢ F.faults files.old → IsErrOf result CannotRead }
+    ensures begun { IfSome (F.begun files.new) (λ name. name ≡ file.now) }
     ensures later { F.faults files.old ≤ F.faults files.new }
 {
     let w = fetch(alloc, file, files)?;

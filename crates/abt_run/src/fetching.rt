@@ -25,6 +25,7 @@ pub fn fetch<F: Files>(alloc: Global, file: &str, files: &mut F) -> Result<Workl
     ensures faulty { F.faults files.new ≢ F.faults files.old → IsErrOf result CannotRead }
     ensures same { (name : List ℕ) → F.file files.new name ≡ F.file files.old name }
     ensures missing { (name : List ℕ) → F.absent files.old name → F.absent files.new name }
+    ensures begun { IfSome (F.begun files.new) (λ name. name ≡ file.now) }
     ensures later { F.faults files.old ≤ F.faults files.new }
 {
     let bytes = bytes_of(alloc, file, files, Format::Three.text_limit())?;
@@ -50,6 +51,7 @@ pub fn fetch_run<F: Files>(
     ensures faulty { F.faults files.new ≢ F.faults files.old → IsErrOf result CannotRead }
     ensures same { (name : List ℕ) → F.file files.new name ≡ F.file files.old name }
     ensures missing { (name : List ℕ) → F.absent files.old name → F.absent files.new name }
+    ensures begun { IfSome (F.begun files.new) (λ name. name ≡ file.now) }
     ensures later { F.faults files.old ≤ F.faults files.new }
 {
     let bytes = bytes_of(alloc, file, files, Format::Three.text_limit())?;

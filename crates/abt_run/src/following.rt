@@ -1,6 +1,6 @@
 //! The command `flow`.
 
-ghost use Rattle.std.specs.Prelude.{◌≡◌, ◌≢◌, ◌≤◌, All, IfErr, IfOk, IsErrOf, List};
+ghost use Rattle.std.specs.Prelude.{◌≡◌, ◌≢◌, ◌≤◌, All, IfErr, IfOk, IfSome, IsErrOf, List};
 ghost use Rattle.abt_flow.specs.Confluent.{Confluent};
 ghost use Rattle.abt_machine.specs.Limits.{function_limit};
 ghost use Rattle.abt_machine.specs.Pieces.{IsPieceOf};
@@ -41,6 +41,7 @@ pub(crate) fn prepare_flow<F: Files, P: Work>(
         → IfErr result (StopsCommand (given words stored (λ name. F.file files.old name)) (F.faults files.old, F.faults files.new)) }
     ensures absent { F.absent files.old file.now → IsErrOf result CannotRead }
     ensures faulty { F.faults files.new ≢ F.faults files.old → IsErrOf result CannotRead }
+    ensures begun { IfSome (F.begun files.new) (λ name. name ≡ file.now) }
     ensures later { F.faults files.old ≤ F.faults files.new }
 {
     let w = fetch(alloc, file, files)?;

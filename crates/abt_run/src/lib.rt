@@ -11,6 +11,7 @@ mod prepared;
 mod program;
 mod running;
 mod status;
+mod usage;
 
 pub use fetching::{fetch, fetch_run};
 pub use keeping::Keep;

@@ -1,6 +1,6 @@
 //! The top call.
 
-ghost use Rattle.std.specs.Prelude.{◌≡◌, ◌≢◌, ◌≤◌, ◌⊎◌, IfErr, IfOk, IsErrAnd, IsErrOf, Some, length, map, string_bytes};
+ghost use Rattle.std.specs.Prelude.{◌≡◌, ◌≢◌, ◌≤◌, ◌⊎◌, IfErr, IfOk, IfSome, IsErrAnd, IsErrOf, Some, length, map, string_bytes};
 ghost use Rattle.abt_machine.specs.Limits.{function_limit};
 ghost use Rattle.abt_machine.specs.Words.{Text};
 ghost use Rattle.abt_order.specs.Stored.{stored_of};
@@ -10,7 +10,7 @@ ghost use Rattle.abt_words.specs.declared.commands.Command.{Command};
 ghost use Rattle.abt_words.specs.declared.commands.Command.TheVariants.{Check, Run};
 ghost use Rattle.abt_words.specs.declared.commands.RunWords.{RunWords};
 ghost use Rattle.abt_run.specs.Call.{IsAnswered};
-ghost use Rattle.abt_run.specs.Given.{given, workload_file};
+ghost use Rattle.abt_run.specs.Given.{IsNamed, given, workload_file};
 ghost use Rattle.abt_run.specs.Prepared.{LacksSecond, StopsCommand};
 ghost use Rattle.abt_run.specs.Printed.{Prints};
 ghost use Rattle.abt_run.specs.Steps.{ExceedsKnown, StopsAtNoLine};
@@ -25,9 +25,10 @@ use crate::keeping::Keep;
 use crate::prepared::Prepared;
 use crate::running::{prepare_file, prepare_self};
 use crate::status::NAME;
+use crate::usage::usage;
 use abt_machine::Journal;
 use abt_order::StoredOrder;
-use abt_shell::{Stop, stop_by, write_out};
+use abt_shell::{Stop, more_of, stop_by, write_out};
 use abt_source::{Files, Sink};
 use abt_words::{Command, WordFault, words as command};
 use abt_work::Work;
@@ -63,6 +64,7 @@ fn prepare<R: Threads + Wait + Sync, F: Files, P: Work + Sync>(
     ensures exceeds { (w : RunWords) → Says (map string_bytes words.now) (Run w) → ExceedsKnown (F.file files.old w.file) w.steps
         → IsErrAnd result (StopsAtNoLine (F.faults files.old, F.faults files.new)) }
     ensures faulty { F.faults files.new ≢ F.faults files.old → IsErrOf result CannotRead }
+    ensures named { IfErr result (λ stop. stop ≡ CannotRead → IfSome (F.begun files.new) (IsNamed (map string_bytes words.now))) }
     ensures later { F.faults files.old ≤ F.faults files.new }
 {
     match command(alloc, words) {
@@ -164,7 +166,8 @@ pub fn abtrun<R: Threads + Wait + Sync, F: Files, K: Sink, E: Sink, P: Work + Sy
             Answer { status, journal }
         }
         Err(stop) => {
-            let why = stop_by(alloc, NAME, err, stop);
+            let more = more_of(stop, usage(words), files.fault());
+            let why = stop_by(alloc, NAME, err, stop, more);
             Answer {
                 status: why.number(),
                 journal: None,

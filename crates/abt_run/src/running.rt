@@ -68,6 +68,7 @@ pub(crate) fn prepare_file<R: Threads + Wait + Sync, F: Files, P: Work + Sync>(
     ensures exceeds { ExceedsKnown (F.file files.old file.now) asked → IsErrAnd result (StopsAtNoLine (F.faults files.old, F.faults files.new)) }
     ensures absent { F.absent files.old file.now → IsErrOf result CannotRead }
     ensures faulty { F.faults files.new ≢ F.faults files.old → IsErrOf result CannotRead }
+    ensures begun { IfSome (F.begun files.new) (λ name. name ≡ file.now) }
     ensures later { F.faults files.old ≤ F.faults files.new }
 {
     let (w, steps) = fetch_run(alloc, file, asked, files)?;

@@ -1,4 +1,5 @@
 pub mod Calls
 pub mod Fetched
+pub mod More
 pub mod Status
 pub mod Told

@@ -1,5 +1,5 @@
 -- How a call of a program ends: its exit status, and what is said about it.
-use Rattle.std.specs.Prelude.{ℕ, [], ◌++◌, codes, decimal}
+use Rattle.std.specs.Prelude.{ℕ, ◌++◌, codes, decimal}
 use Rattle.abt_machine.specs.declared.events.Outcome.{Outcome}
 use Rattle.abt_machine.specs.declared.events.Outcome.TheVariants as outcome
 use Rattle.abt_machine.specs.declared.program.Fault.{Fault}
@@ -78,8 +78,11 @@ abbrev pub said_text : Said → Text
 said_text (Fixed text) = text.now
 said_text (Line line word) = line_text line word.now
 
--- the message of a program of this name, which is empty if all was written
-abbrev pub message_of : {C : Type 0} → Text → Status C → Text
-message_of name (Concluded c) = []
-message_of name (Stopped s) = name ++ stop_text s
-message_of name CannotWrite = name ++ codes ": cannot write\n"
+-- it is said without the number of a line
+abbrev pub IsFixed : Said → Type 0
+IsFixed (Fixed text) = Unit {0}
+IsFixed (Line line word) = ⊥
+
+-- the message of a program of this name that cannot write
+abbrev pub write_fault_text : Text → Text
+write_fault_text name = name ++ codes ": cannot write\n"

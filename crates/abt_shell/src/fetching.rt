@@ -30,6 +30,7 @@ pub fn bytes_of<F: Files>(
     ensures faulty { F.faults files.new ≢ F.faults files.old → IsErrOf result CannotRead }
     ensures same { (name : List ℕ) → F.file files.new name ≡ F.file files.old name }
     ensures missing { (name : List ℕ) → F.absent files.old name → F.absent files.new name }
+    ensures begun { IfSome (F.begun files.new) (λ name. name ≡ file.now) }
     ensures later { F.faults files.old ≤ F.faults files.new }
 {
     match read_all(alloc, files, file, most) {
@@ -51,6 +52,7 @@ pub fn fetch_journal<F: Files>(alloc: Global, file: &str, files: &mut F) -> Resu
     ensures stop { IfErr result (HasNoJournal (F.file files.old file.now) (F.faults files.old, F.faults files.new)) }
     ensures absent { F.absent files.old file.now → IsErrOf result CannotRead }
     ensures faulty { F.faults files.new ≢ F.faults files.old → IsErrOf result CannotRead }
+    ensures begun { IfSome (F.begun files.new) (λ name. name ≡ file.now) }
     ensures later { F.faults files.old ≤ F.faults files.new }
 {
     let bytes = bytes_of(alloc, file, files, JOURNAL_LIMIT)?;

@@ -2,11 +2,13 @@
 #![tactic(auto)]
 
 mod fetching;
+mod more;
 mod process;
 mod status;
 mod writing;
 
 pub use fetching::{bytes_of, fetch_journal};
+pub use more::{More, more_of};
 pub use process::run;
 pub use status::{Stop, Wrong, number_of_outcome};
 pub use writing::{conclude_run, stop_by, stop_without_run, write_out};

@@ -6,6 +6,7 @@ ghost use Rattle.std.specs.Process.{exit_status};
 ghost use Rattle.abt_shell.specs.Status.{number_of_stop};
 ghost use Rattle.abt_shell.specs.declared.status.Stop.TheVariants.{BadWords, OutOfMemory};
 
+use crate::more::More;
 use crate::status::Stop;
 use crate::writing::stop_by;
 use abt_source::RealSink;
@@ -34,7 +35,8 @@ pub fn run<R: Runtime + AllocGlobal, C: FnOnce(&[String]) -> u8>(
             } else {
                 Stop::BadWords
             };
-            stop_by(alloc, name, &mut RealSink::err(rt), stop).number()
+            let err = &mut RealSink::err(rt);
+            stop_by(alloc, name, err, stop, More::Nothing).number()
         }
     };
     ExitCode::from(status)

@@ -1,7 +1,8 @@
 //! How calls end: why a command was not carried out, exit statuses, and what is said about them.
 
 ghost use Rattle.std.specs.Prelude.{◌≡◌};
-ghost use Rattle.abt_shell.specs.Status.{fault_word, number_of_outcome, number_of_stop, said_text, stop_text, wrong_word};
+ghost use Rattle.abt_shell.specs.Status.{IsFixed, fault_word, number_of_outcome, number_of_stop, said_text, stop_text, wrong_word};
+ghost use Rattle.abt_shell.specs.declared.status.Stop.TheVariants.{BadWords};
 
 use abt_machine::{Fault, Outcome, Want};
 use std::alloc::AllocError;
@@ -74,7 +75,8 @@ impl Stop {
 
     // What is said about it, after the name of the program.
     pub(crate) fn said(self) -> Said
-        ensures { said_text result ≡ stop_text self }
+        ensures text { said_text result ≡ stop_text self }
+        ensures fixed { self ≡ BadWords → IsFixed result }
     {
         match self {
             Stop::BadWords => Said::Fixed(b": bad command line\n"),

@@ -1,4 +1,5 @@
 pub mod Counts
+pub mod Naming
 pub mod Output
 pub mod Pieces
 pub mod Process

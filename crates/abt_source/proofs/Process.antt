@@ -8,28 +8,28 @@ use Rattle.abt_source.specs.declared.reading.NotFetched.TheVariants as why
 use Rattle.abt_source.proofs.Counts.{next_count-le}
 
 -- What is left of a file that was begun is not observable.
-pub begin-left : (r : Result (Unit {0}) NotFetched) (old new : FilesOfProcess) → OnOk r (new ≡ one_begun old.faults) → OnOk r (unread new.begun ≡ None)
+pub begin-left : (r : Result (Unit {0}) NotFetched) (old new : FilesOfProcess) → OnOk r (new ≡ one_begun new.name old.faults) → OnOk r (unread new.begun ≡ None)
 begin-left (Ok _) old new ok = ap (λ (m : FilesOfProcess). unread m.begun) ok
 begin-left (Err e) old new ok = tt
 
 -- Nothing is left if none was begun.
 pub begin-nothing : (r : Result (Unit {0}) NotFetched) (old new : FilesOfProcess)
-    → (IsErrOf r why.Failed → new ≡ none_begun (next_count old.faults)) → (IsErrOf r why.Memory → new ≡ none_begun old.faults)
+    → (IsErrOf r why.Failed → new ≡ none_begun new.name (next_count old.faults)) → (IsErrOf r why.Memory → new ≡ none_begun new.name old.faults)
     → OnErr r (NothingLeft (unread new.begun))
 begin-nothing (Ok _) old new failed memory = tt
 begin-nothing (Err why.Failed) old new failed memory = subst (λ (m : FilesOfProcess). NothingLeft (unread m.begun)) (sym (failed refl)) refl
 begin-nothing (Err why.Memory) old new failed memory = subst (λ (m : FilesOfProcess). NothingLeft (unread m.begun)) (sym (memory refl)) refl
 
 -- The count never falls at a begin.
-pub begin-later : (r : Result (Unit {0}) NotFetched) (old new : FilesOfProcess) → OnOk r (new ≡ one_begun old.faults)
-    → (IsErrOf r why.Failed → new ≡ none_begun (next_count old.faults)) → (IsErrOf r why.Memory → new ≡ none_begun old.faults)
+pub begin-later : (r : Result (Unit {0}) NotFetched) (old new : FilesOfProcess) → OnOk r (new ≡ one_begun new.name old.faults)
+    → (IsErrOf r why.Failed → new ≡ none_begun new.name (next_count old.faults)) → (IsErrOf r why.Memory → new ≡ none_begun new.name old.faults)
     → old.faults ≤ new.faults
 begin-later (Ok _) old new ok failed memory = let same : new.faults ≡ old.faults = ap (λ (m : FilesOfProcess). m.faults) ok in omega arith
 begin-later (Err why.Failed) old new ok failed memory = next_count-le old.faults new.faults (ap (λ (m : FilesOfProcess). m.faults) (failed refl))
 begin-later (Err why.Memory) old new ok failed memory = let same : new.faults ≡ old.faults = ap (λ (m : FilesOfProcess). m.faults) (memory refl) in omega arith
 
 -- It stays if a file is begun.
-pub begin-quiet : (r : Result (Unit {0}) NotFetched) (old new : FilesOfProcess) → OnOk r (new ≡ one_begun old.faults) → OnOk r (new.faults ≡ old.faults)
+pub begin-quiet : (r : Result (Unit {0}) NotFetched) (old new : FilesOfProcess) → OnOk r (new ≡ one_begun new.name old.faults) → OnOk r (new.faults ≡ old.faults)
 begin-quiet (Ok _) old new ok = ap (λ (m : FilesOfProcess). m.faults) ok
 begin-quiet (Err e) old new ok = tt
 
@@ -52,3 +52,8 @@ read-ok (Err e) old new ok = tt
 pub read-failed : (r : Result ℕ Failed) (old new : FilesOfProcess) → OnErr r (new ≡ after_fault old) → OnErr r (new.faults ≡ next_count old.faults)
 read-failed (Ok n) old new failed = tt
 read-failed (Err e) old new failed = ap (λ (m : FilesOfProcess). m.faults) failed
+
+-- The name that is kept stays at a read.
+pub read-begun : (r : Result ℕ Failed) (old new : FilesOfProcess) → OnOk r (new ≡ old) → OnErr r (new ≡ after_fault old) → new.name ≡ old.name
+read-begun (Ok n) old new ok failed = ap (λ (m : FilesOfProcess). m.name) ok
+read-begun (Err e) old new ok failed = ap (λ (m : FilesOfProcess). m.name) failed

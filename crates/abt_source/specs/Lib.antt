@@ -1,3 +1,4 @@
+pub mod Fault
 pub mod MemoryFiles
 pub mod MemorySink
 pub mod RealFiles

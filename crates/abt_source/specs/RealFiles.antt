@@ -6,6 +6,8 @@ use Rattle.abt_source.specs.Source.{next_count}
 pub record FilesOfProcess : Type 0 where
   -- whether a file is begun
   pub begun : Bool
+  -- the name that was given last, if it is kept
+  pub name : Option (List ℕ)
   -- how many calls failed
   pub faults : ℕ
 
@@ -14,13 +16,13 @@ abbrev pub unread : Bool → Option (List ℕ)
 unread true = None
 unread false = Some []
 
--- no file is begun, and this many calls failed
-abbrev pub none_begun : ℕ → FilesOfProcess
-none_begun faults = record { begun = false; faults = faults }
+-- no file is begun, this name is kept, and this many calls failed
+abbrev pub none_begun : Option (List ℕ) → ℕ → FilesOfProcess
+none_begun name faults = record { begun = false; name = name; faults = faults }
 
--- a file is begun, and this many calls failed
-abbrev pub one_begun : ℕ → FilesOfProcess
-one_begun faults = record { begun = true; faults = faults }
+-- a file is begun, this name is kept, and this many calls failed
+abbrev pub one_begun : Option (List ℕ) → ℕ → FilesOfProcess
+one_begun name faults = record { begun = true; name = name; faults = faults }
 
 -- one more failure
 abbrev pub after_fault : FilesOfProcess → FilesOfProcess

@@ -2,6 +2,7 @@
 //! memory that fails at chosen calls, and that of the process.
 #![tactic(auto)]
 
+mod fault;
 mod memory_files;
 mod memory_sink;
 mod put;
@@ -10,6 +11,7 @@ mod real_files;
 mod real_sink;
 mod writing;
 
+pub use fault::{Blamed, Reason};
 pub use memory_files::{MemoryFiles, NamedBytes};
 pub use memory_sink::MemorySink;
 pub use reading::{Files, NotFetched, read_all};

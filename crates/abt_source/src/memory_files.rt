@@ -1,12 +1,15 @@
 //! Files in memory, which fail at chosen calls.
 
 ghost use Rattle.std.specs.Prelude.{◌≡◌, ◌<◌, ◌+◌, ◌^◌, ◌++◌, ◌↔◌, [], length, take, drop, position, min, Some};
-ghost use Rattle.std.specs.Prelude.{IsErr, IsNone, IsTrue, IfOk, OnOk, OnErr, IsErrOf, Contains};
+ghost use Rattle.std.specs.Prelude.{IsErr, IsNone, IsTrue, IfOk, IfSome, OnOk, OnErr, IsErrOf, Contains, option_map};
+ghost use Rattle.abt_source.specs.Fault.{blame, blame_of};
 ghost use Rattle.abt_source.specs.Source.{next_count};
-ghost use Rattle.abt_source.specs.MemoryFiles.{FailsToBegin, file_of, is_named, left_of};
-ghost use Rattle.abt_source.specs.MemoryFiles.{not_begun, after_success, after_failure};
+ghost use Rattle.abt_source.specs.MemoryFiles.{FailsToBegin, IsWhy, file_of, is_named, left_of};
+ghost use Rattle.abt_source.specs.MemoryFiles.{not_begun, given_name, after_success, after_failure};
+ghost use Rattle.abt_source.specs.declared.fault.Reason.TheVariants as reason;
 
-use crate::{Failed, Files, NotFetched};
+use crate::fault::{blame_for, kept_name};
+use crate::{Blamed, Failed, Files, NotFetched, Reason};
 use std::marker::Model;
 
 /// A file's name and its bytes.
@@ -34,9 +37,12 @@ pub struct MemoryFiles {
     faults: u64,
     row: Option<usize>,
     at: usize,
+    name: Option<String>,
+    reason: Option<Reason>,
 }
 
 impl Model for MemoryFiles {
+    ghost use Rattle.std.specs.Prelude.{option_map, string_bytes};
     ghost use Rattle.abt_source.specs.MemoryFiles.{FilesInMemory, left_of};
 
     ghost Value = { FilesInMemory };
@@ -47,6 +53,8 @@ impl Model for MemoryFiles {
       calls = m.calls;
       faults = m.faults;
       left = left_of m.files.items m.row m.at;
+      name = option_map string_bytes m.name;
+      reason = m.reason;
     } };
 }
 
@@ -63,6 +71,8 @@ impl MemoryFiles {
             faults: 0,
             row: None,
             at: 0,
+            name: None,
+            reason: None,
         }
     }
 
@@ -74,6 +84,32 @@ impl MemoryFiles {
         let call = self.calls;
         self.calls = call.saturating_add(1);
         is_listed(&self.failing, call)
+    }
+
+    // Begins the file of that name, unless this call fails.
+    fn open(&mut self, name: &str) -> Result<(), NotFetched>
+        ensures fails { IsErr result ↔ FailsToBegin self.old name.now }
+        ensures absent { IsNone (file_of self.old.files name.now) → IsErrOf result NotFetched.Failed }
+        ensures memory { IsErrOf result NotFetched.Memory → ⊥ }
+        ensures opens { OnOk result (file_of self.old.files name.now ≡ Some self.new.left) }
+        ensures ok { OnOk result (self.new ≡ after_success self.old self.new.left) }
+        ensures err { OnErr result (self.new ≡ after_failure self.old self.new.reason []) }
+        ensures reason { OnErr result (IsWhy self.old name.now self.new.reason) }
+    {
+        if self.fails() {
+            self.row = None;
+            self.reason = Some(Reason::Other);
+            self.faults = self.faults.saturating_add(1);
+            return Err(NotFetched::Failed);
+        }
+        self.row = find(&self.files, name);
+        self.at = 0;
+        if self.row.is_none() {
+            self.reason = Some(Reason::Absent);
+            self.faults = self.faults.saturating_add(1);
+            return Err(NotFetched::Failed);
+        }
+        Ok(())
     }
 }
 
@@ -120,6 +156,8 @@ impl Files for MemoryFiles {
 
     ghost absent = { λ m n. IsNone (file_of m.files n) };
 
+    ghost begun = { λ m. m.name };
+
     ghost left = { λ m. Some m.left };
 
     ghost faults = { λ m. m.faults };
@@ -128,22 +166,15 @@ impl Files for MemoryFiles {
         ensures fails { IsErr result ↔ FailsToBegin self.old name.now }
         ensures absent { IsNone (file_of self.old.files name.now) → IsErrOf result NotFetched.Failed }
         ensures memory { IsErrOf result NotFetched.Memory → ⊥ }
+        ensures begun { IfSome self.new.name (λ n. n ≡ name.now) }
         ensures opens { OnOk result (file_of self.old.files name.now ≡ Some self.new.left) }
-        ensures ok { OnOk result (self.new ≡ after_success self.old self.new.left) }
-        ensures err { OnErr result (self.new ≡ after_failure self.old []) }
+        ensures ok { OnOk result (self.new ≡ after_success (given_name self.old self.new.name) self.new.left) }
+        ensures err { OnErr result (self.new ≡ after_failure (given_name self.old self.new.name) self.new.reason []) }
+        ensures reason { OnErr result (IsWhy self.old name.now self.new.reason) }
     {
-        if self.fails() {
-            self.row = None;
-            self.faults = self.faults.saturating_add(1);
-            return Err(NotFetched::Failed);
-        }
-        self.row = find(&self.files, name);
-        self.at = 0;
-        if self.row.is_none() {
-            self.faults = self.faults.saturating_add(1);
-            return Err(NotFetched::Failed);
-        }
-        Ok(())
+        self.name = kept_name(*self.files.allocator(), name);
+        self.reason = None;
+        self.open(name)
     }
 
     fn read(&mut self, into: &mut [u8]) -> Result<usize, Failed>
@@ -153,9 +184,10 @@ impl Files for MemoryFiles {
         ensures into { IfOk result (λ n. into.new ≡ take n self.old.left ++ drop n into.old) }
         ensures ok { IfOk result (λ n. self.new ≡ after_success self.old (drop n self.old.left)) }
         ensures untouched { OnErr result (into.new ≡ into.old) }
-        ensures err { OnErr result (self.new ≡ after_failure self.old self.old.left) }
+        ensures err { OnErr result (self.new ≡ after_failure self.old (Some reason.Other) self.old.left) }
     {
         if self.fails() {
+            self.reason = Some(Reason::Other);
             self.faults = self.faults.saturating_add(1);
             return Err(Failed);
         }
@@ -166,5 +198,12 @@ impl Files for MemoryFiles {
         let n = copy(left, into);
         self.at += n;
         Ok(n)
+    }
+
+    fn fault(&self) -> Option<Blamed<'_>>
+        ensures exact { option_map blame_of result ≡ blame self.now.name self.now.reason }
+        ensures names { IfSome result (λ blamed. self.now.name ≡ Some blamed.name.now) }
+    {
+        blame_for(&self.name, self.reason)
     }
 }

@@ -1,11 +1,11 @@
 //! Files that are read by name, and a whole file read.
 
-ghost use Rattle.std.specs.Prelude.{◌≡◌, ◌<◌, ◌≤◌, ◌+◌, ℕ, List, length, take, drop, Option, option_map};
+ghost use Rattle.std.specs.Prelude.{◌≡◌, ◌<◌, ◌≤◌, ◌+◌, ℕ, List, length, take, drop, Option, Some, option_map};
 ghost use Rattle.std.specs.Prelude.{IfSome, IfOk, OnOk, OnErr, IsErrOf};
 ghost use Rattle.abt_source.specs.declared.reading.NotFetched.TheVariants.{Memory};
 ghost use Rattle.abt_source.specs.Source.{Rose, NothingLeft, ReadGives, LeavesAnEnd};
 
-use crate::Failed;
+use crate::{Blamed, Failed};
 use std::alloc::{AllocError, Global};
 use thiserror::Error;
 
@@ -35,6 +35,9 @@ pub trait Files {
     /// That no file has the name, if that is observable. It stays so.
     ghost absent: { Self → List ℕ → Type 0 };
 
+    /// The name that `begin` was given last, if it is kept.
+    ghost begun: { Self → Option (List ℕ) };
+
     /// The bytes that are left of the file that was begun last, if they are observable.
     ghost left: { Self → Option (List ℕ) };
 
@@ -46,6 +49,7 @@ pub trait Files {
         ensures file { (n : List ℕ) → file self.new n ≡ file self.old n }
         ensures absent { absent self.old name.now → IsErrOf result NotFetched.Failed }
         ensures missing { (n : List ℕ) → absent self.old n → absent self.new n }
+        ensures begun { IfSome (begun self.new) (λ n. n ≡ name.now) }
         ensures left { OnOk result (left self.new ≡ file self.old name.now) }
         ensures nothing { OnErr result (NothingLeft (left self.new)) }
         ensures later { faults self.old ≤ faults self.new }
@@ -58,11 +62,16 @@ pub trait Files {
         requires { 0 < length into.old }
         ensures file { (n : List ℕ) → file self.new n ≡ file self.old n }
         ensures missing { (n : List ℕ) → absent self.old n → absent self.new n }
+        ensures begun { begun self.new ≡ begun self.old }
         ensures bound { IfOk result (λ n. n ≤ length into.new) }
         ensures gives { ReadGives (left self.old) (left self.new) result into.new }
         ensures later { faults self.old ≤ faults self.new }
         ensures cause { OnErr result (Rose (faults self.old) (faults self.new)) }
         ensures quiet { OnOk result (faults self.new ≡ faults self.old) };
+
+    /// The file that was begun last, if its name is kept, and why a call on it failed, if one did.
+    fn fault(&self) -> Option<Blamed<'_>>
+        ensures { IfSome result (λ blamed. begun self.now ≡ Some blamed.name.now) };
 }
 
 // How many bytes one read asks for at most.
@@ -95,6 +104,7 @@ pub fn read_all<F: Files>(
 
     ensures file { (n : List ℕ) → F.file files.new n ≡ F.file files.old n }
     ensures missing { (n : List ℕ) → F.absent files.old n → F.absent files.new n }
+    ensures begun { IfSome (F.begun files.new) (λ n. n ≡ name.now) }
     ensures later { F.faults files.old ≤ F.faults files.new }
 {
     files.begin(name)?;

@@ -1,22 +1,27 @@
-//! The files and the standard input of the process. Contracts do not see what they hold; they see whether a file is begun, and
-//! the count of failed calls.
+//! The files and the standard input of the process. Contracts do not see what they hold; they see whether a file is begun,
+//! the name that was given last, if it is kept, and the count of failed calls.
 
-ghost use Rattle.std.specs.Prelude.{◌≡◌, ◌<◌, ◌≤◌, length, None, IfOk, OnOk, OnErr, IsErrOf, false};
+ghost use Rattle.std.specs.Prelude.{◌≡◌, ◌<◌, ◌≤◌, length, None, Some, IfOk, IfSome, OnOk, OnErr, IsErrOf, false};
 ghost use Rattle.abt_source.specs.RealFiles.{after_fault, none_begun, one_begun, unread};
 ghost use Rattle.abt_source.specs.Source.{next_count};
 
-use crate::{Failed, Files, NotFetched};
+use crate::fault::{blame_for, kept_name};
+use crate::{Blamed, Failed, Files, NotFetched, Reason};
+use std::alloc::Global;
 use std::io::{ErrorKind, Read};
 use std::marker::Model;
 use std::rt::Files as HostFiles;
 use std::{fs, io};
 
-/// The files of the process, and its standard input by the name `-`. Contracts see whether one is begun, and the count of
-/// faults. A directory is begun, and each read of it fails.
+/// The files of the process, and its standard input by the name `-`. Contracts see whether one is begun, the name that was
+/// given last, if there was memory to keep it, and the count of faults. A directory is begun, and each read of it fails.
 #[derive(Drop)]
 pub struct RealFiles<'a, R: HostFiles + Input> {
     rt: &'a R,
+    alloc: Global,
     begun: Option<Begun<R::File>>,
+    name: Option<String>,
+    reason: Option<Reason>,
     faults: u64,
 }
 
@@ -28,22 +33,25 @@ enum Begun<F> {
 }
 
 impl<'a, R: HostFiles + Input> Model for RealFiles<'a, R> {
-    ghost use Rattle.std.specs.Prelude.{is_some};
+    ghost use Rattle.std.specs.Prelude.{is_some, option_map, string_bytes};
     ghost use Rattle.abt_source.specs.RealFiles.{FilesOfProcess};
 
     ghost Value = { FilesOfProcess };
 
-    ghost view = { λ files. record { begun = is_some files.begun; faults = files.faults } };
+    ghost view = { λ files. record { begun = is_some files.begun; name = option_map string_bytes files.name; faults = files.faults } };
 }
 
 impl<'a, R: HostFiles + Input> RealFiles<'a, R> {
     /// No file is begun, and so nothing is left.
-    pub fn new(rt: &'a R) -> Self
-        ensures { result ≡ none_begun 0 }
+    pub fn new(rt: &'a R, alloc: Global) -> Self
+        ensures { result ≡ none_begun None 0 }
     {
         RealFiles {
             rt,
+            alloc,
             begun: None,
+            name: None,
+            reason: None,
             faults: 0,
         }
     }
@@ -75,23 +83,29 @@ impl<R: HostFiles + Input> Files for RealFiles<'_, R> {
 
     ghost absent = { λ _ _. ⊥ };
 
+    ghost begun = { λ files. files.name };
+
     ghost left = { λ files. unread files.begun };
 
     ghost faults = { λ files. files.faults };
 
     fn begin(&mut self, name: &str) -> Result<(), NotFetched>
-        ensures ok { OnOk result (self.new ≡ one_begun self.old.faults) }
-        ensures failed { IsErrOf result NotFetched.Failed → self.new ≡ none_begun (next_count self.old.faults) }
-        ensures memory { IsErrOf result NotFetched.Memory → self.new ≡ none_begun self.old.faults }
+        ensures begun { IfSome self.new.name (λ n. n ≡ name.now) }
+        ensures ok { OnOk result (self.new ≡ one_begun self.new.name self.old.faults) }
+        ensures failed { IsErrOf result NotFetched.Failed → self.new ≡ none_begun self.new.name (next_count self.old.faults) }
+        ensures memory { IsErrOf result NotFetched.Memory → self.new ≡ none_begun self.new.name self.old.faults }
     {
         self.begun = None;
+        self.name = kept_name(self.alloc, name);
+        self.reason = None;
         match self.open(name) {
             Ok(begun) => {
                 self.begun = Some(begun);
                 Ok(())
             }
             Err(e) if e.kind() == ErrorKind::OutOfMemory => Err(NotFetched::Memory),
-            Err(_) => {
+            Err(e) => {
+                self.reason = Some(reason_of(e.kind()));
                 self.faults = self.faults.saturating_add(1);
                 Err(NotFetched::Failed)
             }
@@ -107,10 +121,27 @@ impl<R: HostFiles + Input> Files for RealFiles<'_, R> {
     {
         match self.fetch(into) {
             Ok(n) => Ok(n),
-            Err(_) => {
+            Err(e) => {
+                self.reason = Some(reason_of(e.kind()));
                 self.faults = self.faults.saturating_add(1);
                 Err(Failed)
             }
         }
+    }
+
+    fn fault(&self) -> Option<Blamed<'_>>
+        ensures { IfSome result (λ blamed. self.now.name ≡ Some blamed.name.now) }
+    {
+        blame_for(&self.name, self.reason)
+    }
+}
+
+// What the host's kind of error says of a file.
+fn reason_of(kind: ErrorKind) -> Reason {
+    match kind {
+        ErrorKind::NotFound => Reason::Absent,
+        ErrorKind::PermissionDenied => Reason::NotAllowed,
+        ErrorKind::IsADirectory => Reason::Folder,
+        _ => Reason::Other,
     }
 }

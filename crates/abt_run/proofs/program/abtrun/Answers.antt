@@ -1,6 +1,8 @@
-use Rattle.std.proofs.Common.{inl, inr, refl, rules}
-use Rattle.abt_shell.proofs.Calls.{concluded, missing-ends, not-stopped, stopped, stopped-by}
+use Rattle.std.proofs.Common.{inl, inr, map, refl, rules, string_bytes}
+use Rattle.abt_shell.specs.More.{more_text}
+use Rattle.abt_shell.proofs.Calls.{adds-known, concluded, missing-ends, not-stopped, stopped, stopped-by}
 use Rattle.abt_run.specs.Call.{program}
+use Rattle.abt_run.specs.Given.{IsNamed}
 use Rattle.abt_run.proofs.Complete.{answered, lacks-second}
 use Rattle.abt_run.proofs.Preparing.{as-many}
 use Rattle.abt_run.proofs.Stepping.{no-line-ends}
@@ -18,7 +20,9 @@ returns-in-Ok g c =
 pub returns-in-Err : goal.returns-in-Err
 returns-in-Err g c =
     answered _ _ (as-many _ c.args.orders.now 2 c.requires.orders)
-    (stopped (program _) _ c.in-Err.stop c.stop_by-why.result _ (record { why = c.in-Err.ensures.stop; journal = refl }) (record { why = tt; journal = refl }) c.number-in-Err.ensures (search rules) c.stop_by-why.ensures.told c.stop_by-why.ensures.same)
+    (stopped (program _) _ c.in-Err.stop c.stop_by-why.result (more_text c.more_of-more.result) _ (record { why = c.in-Err.ensures.stop; journal = refl }) (record { why = tt; journal = refl })
+    (adds-known _ _ (IsNamed (map string_bytes c.args.words.now)) _ c.fault.result c.in-Err.stop _ c.usage.ensures c.in-Err.ensures.named c.fault.ensures c.more_of-more.ensures) refl
+    c.number-in-Err.ensures (search rules) c.stop_by-why.ensures.told)
     (λ command file says names gone. elim (c.in-Err.ensures.absent command file says names gone) [
       | inl read ↦ missing-ends _ c.in-Err.stop c.stop_by-why.result (inl (stopped-by _ _ read)) c.number-in-Err.ensures c.stop_by-why.ensures.same
       | inr refused ↦ missing-ends _ c.in-Err.stop c.stop_by-why.result (inr (stopped-by _ _ refused)) c.number-in-Err.ensures c.stop_by-why.ensures.same

@@ -1,7 +1,8 @@
 use Rattle.std.proofs.Common.{◌∙◌, inl, map, refl, string_bytes, subst, sym}
 use Rattle.abt_words.specs.declared.commands.Command.TheVariants as command
 use Rattle.abt_words.specs.Commands.{Says}
-use Rattle.abt_run.proofs.Preparing.{no-file, one-file}
+use Rattle.abt_shell.proofs.Calls.{if-refused, if-unread}
+use Rattle.abt_run.proofs.Preparing.{named, no-file, one-file}
 use Rattle.abt_run.proofs.Stepping.{exceeds-same}
 use Rattle.abt_run.proofs.program.prepare.Goals as goal
 
@@ -149,3 +150,37 @@ returns-in-Ok-Help-clause-exceeds g c = λ w says known.
 pub returns-in-Ok-Version-clause-exceeds : goal.returns-in-Ok-Version-clause-exceeds
 returns-in-Ok-Version-clause-exceeds g c = λ w says known.
     (let same = c.in-Ok-Version.ensures.only (command.Run w) says ∙ c.in-Ok-Version.field-0-is in absurd (cc))
+
+pub returns-in-Ok-Run-clause-named : goal.returns-in-Ok-Run-clause-named
+returns-in-Ok-Run-clause-named g c =
+    if-unread c.prepare_file.result _ (named (map string_bytes c.args.words.now) _ _
+    (subst (λ f. Says (map string_bytes c.args.words.now) (command.Run (record c.in-Ok-Run.asked { file = f }))) (sym c.as_str.ensures)
+    (subst (Says (map string_bytes c.args.words.now)) c.in-Ok-Run.field-0-is c.in-Ok-Run.ensures.said)) c.prepare_file.ensures.begun)
+
+pub returns-in-Ok-SelfRun-clause-named : goal.returns-in-Ok-SelfRun-clause-named
+returns-in-Ok-SelfRun-clause-named g c = if-refused c.prepare_self.result _ c.prepare_self.ensures.stop
+
+pub returns-in-Ok-Check-clause-named : goal.returns-in-Ok-Check-clause-named
+returns-in-Ok-Check-clause-named g c =
+    if-unread c.prepare_check.result _ (named (map string_bytes c.args.words.now) _ _
+    (subst (λ w. Says (map string_bytes c.args.words.now) (command.Check (record { workload = w; journal = c.as_str-in-Ok-Check-2.result.now; shows = c.in-Ok-Check.asked.shows }))) (sym c.as_str-in-Ok-Check.ensures)
+    (subst (λ j. Says (map string_bytes c.args.words.now) (command.Check (record { workload = c.in-Ok-Check.asked.workload; journal = j; shows = c.in-Ok-Check.asked.shows }))) (sym c.as_str-in-Ok-Check-2.ensures)
+    (subst (Says (map string_bytes c.args.words.now)) c.in-Ok-Check.field-0-is c.in-Ok-Check.ensures.said))) c.prepare_check.ensures.begun)
+
+pub returns-in-Ok-Flow-clause-named : goal.returns-in-Ok-Flow-clause-named
+returns-in-Ok-Flow-clause-named g c =
+    if-unread c.prepare_flow.result _ (named (map string_bytes c.args.words.now) _ _
+    (subst (λ f. Says (map string_bytes c.args.words.now) (command.Flow f)) (sym c.as_str-in-Ok-Flow.ensures)
+    (subst (Says (map string_bytes c.args.words.now)) c.in-Ok-Flow.field-0-is c.in-Ok-Flow.ensures.said)) c.prepare_flow.ensures.begun)
+
+pub returns-in-Ok-Explore-clause-named : goal.returns-in-Ok-Explore-clause-named
+returns-in-Ok-Explore-clause-named g c =
+    if-unread c.prepare_explore.result _ (named (map string_bytes c.args.words.now) _ _
+    (subst (λ f. Says (map string_bytes c.args.words.now) (command.Explore (record c.in-Ok-Explore.asked { file = f }))) (sym c.as_str-in-Ok-Explore.ensures)
+    (subst (Says (map string_bytes c.args.words.now)) c.in-Ok-Explore.field-0-is c.in-Ok-Explore.ensures.said)) c.prepare_explore.ensures.begun)
+
+pub returns-in-Ok-Help-clause-named : goal.returns-in-Ok-Help-clause-named
+returns-in-Ok-Help-clause-named g c = if-refused c.prepare_help.result _ c.prepare_help.ensures.stop
+
+pub returns-in-Ok-Version-clause-named : goal.returns-in-Ok-Version-clause-named
+returns-in-Ok-Version-clause-named g c = if-refused c.prepare_version.result _ c.prepare_version.ensures.stop

@@ -1,7 +1,7 @@
 use Rattle.std.proofs.Common.{refl, ap}
 use Rattle.abt_source.specs.RealFiles.{FilesOfProcess}
 use Rattle.abt_source.proofs.Counts.{later, cause, next_count-Rose}
-use Rattle.abt_source.proofs.Process.{begin-later, begin-left, begin-nothing, begin-quiet, read-failed, read-next, read-ok}
+use Rattle.abt_source.proofs.Process.{begin-later, begin-left, begin-nothing, begin-quiet, read-begun, read-failed, read-next, read-ok}
 use Rattle.abt_source.proofs.real_files.RealFilesFiles.TheImpl.Goals as goal
 
 pub begin-tells : goal.begin-tells
@@ -11,6 +11,7 @@ begin-tells g c =
       file = λ _. refl;
       absent = λ never. absurd never;
       missing = λ _ never. never;
+      begun = c.ensures.begun;
       left = begin-left c.result old new c.ensures.ok;
       nothing = begin-nothing c.result old new c.ensures.failed c.ensures.memory;
       later = begin-later c.result old new c.ensures.ok c.ensures.failed c.ensures.memory;
@@ -27,6 +28,7 @@ read-tells g c =
     let failed = read-failed c.result old new c.ensures.failed in record {
       file = λ _. refl;
       missing = λ _ never. never;
+      begun = read-begun c.result old new c.ensures.ok c.ensures.failed;
       bound = c.ensures.bound;
       gives = read-next c.result old new c.new.into.now c.ensures.nothing c.ensures.ok c.ensures.failed;
       later = later c.result old.faults new.faults ok failed;
