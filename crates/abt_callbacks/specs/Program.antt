@@ -5,10 +5,13 @@ use Rattle.abt_machine.specs.Words.{Text, ended}
 use Rattle.abt_shell.specs.declared.status.Stop.{Stop}
 use Rattle.abt_shell.specs.declared.status.Stop.TheVariants.{BadWords, BadLine, CannotRead, OutOfMemory}
 use Rattle.abt_shell.specs.Calls.{EndsBy, Left, Program}
+use Rattle.abt_shell.specs.More.{Adds}
 use Rattle.abt_shell.specs.Told.{Grew}
 use Rattle.abt_words.specs.declared.itself.Topic.{Topic}
 use Rattle.abt_words.specs.declared.itself.Topic.TheVariants.{Help, Version}
+use Rattle.abt_words.specs.declared.versions.Program.TheVariants as program_of
 use Rattle.abt_words.specs.About.{AsksAbout}
+use Rattle.abt_words.specs.Versions.{version_text}
 use Rattle.abt_callbacks.specs.declared.fold.FoldShape.{FoldShape}
 use Rattle.abt_callbacks.specs.Folding.{number_limit}
 use Rattle.abt_callbacks.specs.Futures.{CalledFutureValue}
@@ -61,10 +64,14 @@ pub record IsSumLine {F : Type 0} (shape_of : F → FoldShape) (May : F → List
   pub asked : AsksSum words
   pub made : IsLineOf shape_of May fold asked.workers asked.numbers text
 
+-- how a sum is asked for
+abbrev pub usage : Text
+usage = codes "abtfold W N\n"
+
 -- what the program says of itself
 abbrev pub about_text : Topic → Text
-about_text Help = codes "abtfold W N\nabtfold --help\nabtfold --version\n"
-about_text Version = codes "abtfold 1\n"
+about_text Help = usage ++ codes "abtfold --help\nabtfold --version\n"
+about_text Version = version_text program_of.Fold
 
 -- the words ask about the program, and the text is what it says of itself
 pub record Explains (words : List Text) (text : Text) : Type 0 where
@@ -87,6 +94,7 @@ program shape_of May fold c = record {
   number = λ _. 0;
   Prints = λ _ text. IsSumLine shape_of May fold c.words text ⊎ Explains c.words text;
   Stops = StopsFold c.words;
+  Adds = Adds usage (λ file. ⊥);
 }
 
 -- The exit status has its cause. The words decide whether it is 2, and if no write fails it is 0, 2 or 7, and 0 if they ask about the

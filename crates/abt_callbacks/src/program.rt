@@ -3,7 +3,6 @@
 ghost use Rattle.std.specs.Prelude.{◌≡◌, ◌≤◌, ℕ, IfOk, MatchOption, map, string_bytes};
 ghost use Rattle.abt_machine.specs.Spelling.{SaysNumber};
 ghost use Rattle.abt_shell.specs.Calls.{left};
-ghost use Rattle.abt_shell.specs.Told.{IsTold};
 ghost use Rattle.abt_callbacks.specs.declared.fold.FoldShape.TheVariants as shape;
 ghost use Rattle.abt_callbacks.specs.Folding.{number_limit};
 ghost use Rattle.abt_callbacks.specs.Program.{Asks, AsksNoSum, IsAnswered, IsLineOf, about_text};
@@ -12,9 +11,9 @@ use crate::fold::Fold;
 use crate::folding::fold_on_threads;
 use abt_lines::{end_line, push_number};
 use abt_machine::Want;
-use abt_shell::{Stop, write_out};
-use abt_source::{Sink, write_whole};
-use abt_words::{Topic, about};
+use abt_shell::{More, Stop, stop_by, write_out};
+use abt_source::Sink;
+use abt_words::{Program, Topic, about, version};
 use std::alloc::Global;
 use std::sync::Wait;
 use std::thread::Threads;
@@ -22,11 +21,11 @@ use std::thread::Threads;
 /// The name of the program.
 pub const NAME: &[u8] = b"abtfold";
 
+// How a sum is asked for.
+const USAGE: &[u8] = b"abtfold W N\n";
+
 // The program's words.
 const HELP: &[u8] = b"abtfold W N\nabtfold --help\nabtfold --version\n";
-
-// The program's version.
-const VERSION: &[u8] = b"abtfold 1\n";
 
 // The maximum number of workers.
 const WORKER_LIMIT: u32 = 8;
@@ -56,21 +55,12 @@ pub fn abtfold<R: Threads + Wait + Sync, K: Sink, E: Sink, F: Fold + Send + Drop
         return write_out(NAME, out, err, about_text(topic), 0);
     }
     let Some((workers, n)) = asked(words) else {
-        tell(err, b"abtfold: bad command line\n");
-        return Stop::BadWords.number();
+        return stop_by(alloc, NAME, err, Stop::BadWords, More::Usage(USAGE)).number();
     };
     let Ok(line) = line(rt, alloc, workers, n, fold) else {
-        tell(err, b"abtfold: out of memory\n");
-        return Stop::OutOfMemory.number();
+        return stop_by(alloc, NAME, err, Stop::OutOfMemory, More::Nothing).number();
     };
     write_out(NAME, out, err, &line, 0)
-}
-
-// Writes a message. If a write fails, the sink has a prefix of it.
-fn tell<E: Sink>(err: &mut E, message: &[u8])
-    ensures { IsTold (E.taken err.old, E.taken err.new) (E.faults err.old, E.faults err.new) message.now }
-{
-    let _ = write_whole(err, message);
 }
 
 // What the program says of itself.
@@ -79,7 +69,7 @@ fn about_text(topic: Topic) -> &'static [u8]
 {
     match topic {
         Topic::Help => HELP,
-        Topic::Version => VERSION,
+        Topic::Version => version(Program::Fold),
     }
 }
 

@@ -2,6 +2,8 @@
 use Rattle.std.proofs.Common.{◌≡◌, ◌∙◌, ◌+◌, ◌*◌, ℕ, List, [], ◌∷◌, drop, length, map, slice_index, ap, arith, refl, subst, sym}
 use Rattle.std.specs.Prelude.{◌==◌, if◌then◌else◌}
 use Rattle.abt_machine.specs.Words.{Text}
+use Rattle.abt_words.specs.declared.itself.Topic.{Topic}
+use Rattle.abt_words.specs.About.{AsksAbout, about_word}
 use Rattle.abt_compute.specs.declared.words.Kernel.{Kernel}
 use Rattle.abt_compute.specs.declared.words.Kernel.TheVariants as kernel
 use Rattle.abt_compute.specs.Questions.{Question, Primes, Queens, Subsequence, Sort, Picture, Turns, Asks, AsksNothing, AsksStreams, Begins, IsNoKernel, Lacks, SaysOne, SaysTwo, kernel_of, kernel_word}
@@ -142,3 +144,19 @@ module _ (name : Text) (own : List Text) where
     no-streams q more is begins none u streams asks =
         let rest : asks.more ≡ more = sym (rest-is u own asks.more (own-is u streams asks)) ∙ (ap (λ l. drop (data_count l) own) (kernel-is u streams asks ∙ sym is) ∙ rest-is q own more begins) in
         none streams (subst (λ ws. AsksStreams ws streams) rest asks.streams_asked)
+
+-- a name alone asks no question
+no-question : (q : Question) (own more : List Text) → Begins own q more → own ≡ [] → ⊥
+no-question (Primes n) own more begins none = let are = begins.are in cc
+no-question (Queens n) own more begins none = let are = begins.are in cc
+no-question (Subsequence first second) own more begins none = let are = begins.are in cc
+no-question (Sort file) own more begins none = cc
+no-question (Picture width height) own more begins none = let are = begins.are in cc
+no-question (Turns nodes turns) own more begins none = let are = begins.are in cc
+
+-- so words that ask a question do not ask about the program
+pub question-or-about : (words : List Text) (q : Question) (streams : ℕ) (topic : Topic) → Asks words q streams → AsksAbout words topic → ⊥
+question-or-about words q streams topic asks about =
+    no-question q asks.own asks.more asks.begins (tail-is (kernel_word (kernel_of q)) (about_word topic) asks.own (sym asks.name ∙ about)) where
+      tail-is : (a b : Text) (own : List Text) → a ∷ own ≡ b ∷ [] → own ≡ []
+      tail-is a b own e = cc

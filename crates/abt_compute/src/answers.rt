@@ -1,6 +1,6 @@
 //! The answers to questions.
 
-ghost use Rattle.std.specs.Prelude.{◌≡◌, ◌≢◌, ◌<◌, ◌≤◌, IfErr, IfOk, IsErrAnd, IsErrOf, codes};
+ghost use Rattle.std.specs.Prelude.{◌≡◌, ◌≢◌, ◌<◌, ◌≤◌, IfErr, IfOk, IfSome, IsErrAnd, IsErrOf, codes};
 ghost use Rattle.abt_functions.specs.Primes.{primes_below};
 ghost use Rattle.abt_kernels.specs.Queens.{queens};
 ghost use Rattle.abt_kernels.specs.Sorting.{in_order};
@@ -143,6 +143,7 @@ fn answer_of_two<R: Threads + Wait + Sync, F: Files>(
     ensures stop { IfErr result (Prevents (λ name. F.file files.old name) (Subsequence first.now second.now) (F.faults files.old, F.faults files.new)) }
     ensures absent { (file : Text) → Names (Subsequence first.now second.now) file → F.absent files.old file → IsErrAnd result IsUnread }
     ensures faulty { F.faults files.new ≢ F.faults files.old → IsErrOf result CannotRead }
+    ensures begun { IfSome (F.begun files.new) (Names (Subsequence first.now second.now)) }
     ensures later { F.faults files.old ≤ F.faults files.new }
 {
     let (a, b) = two_texts(alloc, first, second, files)?;
@@ -163,6 +164,7 @@ fn answer_of_list<R: Threads + Wait + Sync, F: Files>(
     ensures stop { IfErr result (Prevents (λ name. F.file files.old name) (Sort file.now) (F.faults files.old, F.faults files.new)) }
     ensures absent { (name : Text) → Names (Sort file.now) name → F.absent files.old name → IsErrAnd result IsUnread }
     ensures faulty { F.faults files.new ≢ F.faults files.old → IsErrOf result CannotRead }
+    ensures begun { IfSome (F.begun files.new) (Names (Sort file.now)) }
     ensures later { F.faults files.old ≤ F.faults files.new }
 {
     let numbers = numbers_in(alloc, file, files)?;
@@ -188,6 +190,7 @@ pub(crate) fn answer<R: Threads + Wait + Sync, F: Files>(
     ensures stop { IfErr result (Prevents (λ name. F.file files.old name) (question_of asked.entry) (F.faults files.old, F.faults files.new)) }
     ensures absent { (file : Text) → Names (question_of asked.entry) file → F.absent files.old file → IsErrAnd result IsUnread }
     ensures faulty { F.faults files.new ≢ F.faults files.old → IsErrOf result CannotRead }
+    ensures named { IfErr result (λ stop. stop ≡ CannotRead → IfSome (F.begun files.new) (Names (question_of asked.entry))) }
     ensures later { F.faults files.old ≤ F.faults files.new }
 {
     match asked {

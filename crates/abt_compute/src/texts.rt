@@ -1,6 +1,6 @@
 //! The texts of files.
 
-ghost use Rattle.std.specs.Prelude.{◌≡◌, ◌≢◌, ◌≤◌, IfErr, IfOk, IsErrAnd, IsErrOf};
+ghost use Rattle.std.specs.Prelude.{◌≡◌, ◌≢◌, ◌≤◌, ◌⊎◌, IfErr, IfOk, IfSome, IsErrAnd, IsErrOf};
 ghost use Rattle.abt_shell.specs.Fetched.{HasNot};
 ghost use Rattle.abt_shell.specs.declared.status.Stop.TheVariants.{CannotRead};
 ghost use Rattle.abt_compute.specs.Files.{AreBadTexts, Has, HasNumbers, IsBadList, IsUnread, text_limit};
@@ -36,6 +36,7 @@ pub(crate) fn two_texts<F: Files>(
     ensures absent { F.absent files.old first.now → IsErrOf result CannotRead }
     ensures missing { F.absent files.old second.now → IsErrAnd result IsUnread }
     ensures faulty { F.faults files.new ≢ F.faults files.old → IsErrOf result CannotRead }
+    ensures begun { IfSome (F.begun files.new) (λ name. (name ≡ first.now) ⊎ (name ≡ second.now)) }
     ensures later { F.faults files.old ≤ F.faults files.new }
 {
     let one = bytes_of(alloc, first, files, TEXT_LIMIT)?;
@@ -60,6 +61,7 @@ pub(crate) fn numbers_in<F: Files>(
     ensures stop { IfErr result (HasNot (IsBadList (F.file files.old file.now)) (F.faults files.old, F.faults files.new)) }
     ensures absent { F.absent files.old file.now → IsErrOf result CannotRead }
     ensures faulty { F.faults files.new ≢ F.faults files.old → IsErrOf result CannotRead }
+    ensures begun { IfSome (F.begun files.new) (λ name. name ≡ file.now) }
     ensures later { F.faults files.old ≤ F.faults files.new }
 {
     let bytes = bytes_of(alloc, file, files, LIST_LIMIT)?;

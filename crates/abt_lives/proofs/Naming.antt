@@ -1,5 +1,5 @@
 -- What words ask for, and the bytes of the files that they name if these are seen.
-use Rattle.std.proofs.Common.{◌≡◌, ◌∙◌, ℕ, List, Option, Some, None, inl, inr, ap, subst, sym}
+use Rattle.std.proofs.Common.{◌≡◌, ◌∙◌, ◌⊎◌, ℕ, List, Option, Some, None, inl, inr, ap, subst, sym}
 use Rattle.std.specs.Prelude.{IfSome}
 use Rattle.abt_machine.specs.declared.workload.Parts.{Parts}
 use Rattle.abt_machine.specs.Grammar.{Reads}
@@ -12,7 +12,7 @@ use Rattle.abt_words.specs.Lives.{SaysLives}
 use Rattle.abt_words.proofs.OneLives.{about-or-lives, one-lives}
 use Rattle.abt_run.specs.Given.{Given}
 use Rattle.abt_run.proofs.Stepping.{same-number}
-use Rattle.abt_lives.specs.Asked.{AsksBeyond, AsksRun, IsBadCommand, MayMake}
+use Rattle.abt_lives.specs.Asked.{AsksBeyond, AsksRun, IsBadCommand, IsNamed, MayMake}
 use Rattle.abt_lives.specs.Call.{Call, TellsWorkload, TellsBoth}
 
 -- words ask for one run
@@ -37,6 +37,12 @@ pub said-as : (words : List Text) (asked : LivesWords) (workload lives : Text) �
 said-as words asked workload lives first second says =
     subst (λ (w : Text). SaysLives words (record { workload = w; lives = lives; steps = asked.steps; journal = asked.journal })) (sym first)
     (subst (λ (l : Text). SaysLives words (record { workload = asked.workload; lives = l; steps = asked.steps; journal = asked.journal })) (sym second) says)
+
+-- a file of the run that words ask for is one that they name
+pub named : (words : List Text) (asked : LivesWords) (begun : Option Text) → SaysLives words asked → IfSome begun (λ file. (file ≡ asked.workload) ⊎ (file ≡ asked.lives))
+    → IfSome begun (IsNamed words)
+named words asked None says its = tt
+named words asked (Some file) says its = (record { asked = asked; says = says }, its)
 
 -- by what is seen of a file each stream may make one number of steps
 pub one-made : (told : Option Text) (bytes : Text) (asked : Option ℕ) (m n : ℕ) → told ≡ Some bytes → MayMake told asked m → MayMake told asked n → m ≡ n

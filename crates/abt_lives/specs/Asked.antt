@@ -19,6 +19,10 @@ pub record AsksRun (words : List Text) : Type 0 where
   pub asked : LivesWords
   pub says : SaysLives words asked
 
+-- and name this file
+abbrev pub IsNamed : List Text → Text → Type 0
+IsNamed words file = (run : AsksRun words) × ((file ≡ run.asked.workload) ⊎ (file ≡ run.asked.lives))
+
 -- they ask neither for that nor about the program
 abbrev pub AsksNothing : List Text → Type 0
 AsksNothing words = ((w : LivesWords) → SaysLives words w → ⊥) × ((a : Topic) → AsksAbout words a → ⊥)

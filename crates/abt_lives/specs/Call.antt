@@ -17,6 +17,7 @@ use Rattle.abt_shell.specs.declared.status.Wrong.{Wrong}
 use Rattle.abt_shell.specs.declared.status.Wrong.TheVariants.{Workload, Journal, Lives}
 use Rattle.abt_shell.specs.Calls.{EndsBy, HasReadFault, Left, Program}
 use Rattle.abt_shell.specs.Fetched.{StopsFor}
+use Rattle.abt_shell.specs.More.{Adds}
 use Rattle.abt_shell.specs.Told.{Grew}
 use Rattle.abt_streams.specs.declared.life.Life.{Life}
 use Rattle.abt_streams.specs.declared.wave.Wave.{Wave}
@@ -25,9 +26,9 @@ use Rattle.abt_words.specs.declared.itself.Topic.{Topic}
 use Rattle.abt_words.specs.About.{AsksAbout}
 use Rattle.abt_lives.specs.declared.status.Conclusion.{Conclusion}
 use Rattle.abt_lives.specs.declared.status.Conclusion.TheVariants.{Ended, Explained}
-use Rattle.abt_lives.specs.Asked.{AsksBeyond, AsksNothing, AsksRun, IsBadCommand, MayMake}
+use Rattle.abt_lives.specs.Asked.{AsksBeyond, AsksNothing, AsksRun, IsBadCommand, IsNamed, MayMake}
 use Rattle.abt_lives.specs.Lives.{ReadsLives, RefusesLives, waves_text}
-use Rattle.abt_lives.specs.Status.{about_text, name, number_of_conclusion}
+use Rattle.abt_lives.specs.Status.{about_text, name, number_of_conclusion, usage}
 
 -- what the call was given, of which names it is observable that no file has them, what it left, and the journal that was returned
 pub record Call : Type 1 where
@@ -106,6 +107,7 @@ program c = record {
   number = number_of_conclusion;
   Prints = PrintsLives c.given c.journal;
   Stops = IsStopped c;
+  Adds = Adds usage (IsNamed c.given.words);
 }
 
 -- When each status must come, unless memory runs out.

@@ -12,20 +12,20 @@ ghost use Rattle.abt_shell.specs.Calls.{left};
 ghost use Rattle.abt_shell.specs.declared.status.Stop.TheVariants.{CannotRead, OutOfMemory};
 ghost use Rattle.abt_words.specs.About.{AsksAbout};
 ghost use Rattle.abt_words.specs.Lives.{SaysLives};
-ghost use Rattle.abt_lives.specs.Asked.{AsksRun, LacksLives, MayMake};
+ghost use Rattle.abt_lives.specs.Asked.{AsksRun, IsNamed, LacksLives, MayMake};
 ghost use Rattle.abt_lives.specs.Call.{IsAnswered, PrintsLives, StopsLives, waves_output};
 ghost use Rattle.abt_lives.specs.Lives.{HasNoLives, ReadsLives};
 ghost use Rattle.abt_lives.specs.declared.status.Conclusion.TheVariants as conclusion;
 ghost use Rattle.abt_streams.specs.Lives.{AreLives};
 ghost use Rattle.abt_streams.specs.Waves.{HasRunOn};
 
-use crate::status::{Conclusion, NAME, about_text};
+use crate::status::{Conclusion, NAME, USAGE, about_text};
 use crate::waves::push_waves;
 use abt_machine::{Ended, Journal, Want, Workload};
 use abt_order::StoredOrder;
 use abt_report::{TextFault, append_report, count_steps, journal_text};
 use abt_run::fetch_run;
-use abt_shell::{Stop, Wrong, bytes_of, conclude_run, stop_without_run};
+use abt_shell::{Stop, Wrong, bytes_of, conclude_run, more_of, stop_without_run};
 use abt_source::{Files, Sink};
 use abt_streams::{Lives, LivesRun, read_lives, run_lives};
 use abt_words::{DEFAULT_STEPS, Topic, WordFault, about, lives_words};
@@ -101,6 +101,7 @@ fn fetch_lives<F: Files>(
     ensures stop { IfErr result (HasNoLives w.now (F.file files.old file.now) (F.faults files.old, F.faults files.new)) }
     ensures absent { F.absent files.old file.now → IsErrOf result CannotRead }
     ensures faulty { F.faults files.new ≢ F.faults files.old → IsErrOf result CannotRead }
+    ensures begun { IfSome (F.begun files.new) (λ name. name ≡ file.now) }
     ensures later { F.faults files.old ≤ F.faults files.new }
 {
     let bytes = bytes_of(alloc, file, files, LIVES_LIMIT)?;
@@ -169,6 +170,7 @@ fn prepare_files<R: Threads + Wait + Sync, F: Files, P: Work + Sync>(
     ensures exceeds { ExceedsKnown (F.file files.old workload.now) asked
         → IsErrAnd result (StopsAtNoLine (F.faults files.old, F.faults files.new)) }
     ensures faulty { F.faults files.new ≢ F.faults files.old → IsErrOf result CannotRead }
+    ensures begun { IfSome (F.begun files.new) (λ name. (name ≡ workload.now) ⊎ (name ≡ lives.now)) }
     ensures later { F.faults files.old ≤ F.faults files.new }
 {
     let (w, allowed) = fetch_run(alloc, workload, asked, files)?;
@@ -211,6 +213,7 @@ fn prepare<R: Threads + Wait + Sync, F: Files, P: Work + Sync>(
     ensures exceeds { (run : AsksRun (map string_bytes words.now)) → ExceedsKnown (F.file files.old run.asked.workload) run.asked.steps
         → IsErrAnd result (StopsAtNoLine (F.faults files.old, F.faults files.new)) }
     ensures faulty { F.faults files.new ≢ F.faults files.old → IsErrOf result CannotRead }
+    ensures named { IfErr result (λ stop. stop ≡ CannotRead → IfSome (F.begun files.new) (IsNamed (map string_bytes words.now))) }
     ensures later { F.faults files.old ≤ F.faults files.new }
 {
     if let Some(asked) = about(words) {
@@ -272,6 +275,9 @@ pub fn abtwaves<R: Threads + Wait + Sync, F: Files, K: Sink, E: Sink, P: Work + 
             } = done;
             conclude_run(NAME, out, err, &text, conclusion.number(), journal)
         }
-        Err(stop) => stop_without_run(alloc, NAME, err, stop),
+        Err(stop) => {
+            let more = more_of(stop, USAGE, files.fault());
+            stop_without_run(alloc, NAME, err, stop, more)
+        }
     }
 }

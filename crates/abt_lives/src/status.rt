@@ -5,17 +5,17 @@ ghost use Rattle.abt_lives.specs.Status.{about_text, number_of_conclusion};
 
 use abt_machine::Outcome;
 use abt_shell::number_of_outcome;
-use abt_words::Topic;
+use abt_words::{Program, Topic, version};
 
 /// The name of the program.
 pub const NAME: &[u8] = b"abtwaves";
 
+/// How the program is called for a run.
+pub(crate) const USAGE: &[u8] = b"abtwaves WORKLOAD LIVES [--steps V] [--journal]\n";
+
 // The program's words.
 const HELP: &[u8] =
     b"abtwaves WORKLOAD LIVES [--steps V] [--journal]\nabtwaves --help\nabtwaves --version\n";
-
-// The program's version.
-const VERSION: &[u8] = b"abtwaves 1\n";
 
 /// What a call that was carried out came to.
 #[derive(Clone, Copy, Debug, PartialEq, Eq)]
@@ -44,6 +44,6 @@ pub(crate) fn about_text(asked: Topic) -> &'static [u8]
 {
     match asked {
         Topic::Help => HELP,
-        Topic::Version => VERSION,
+        Topic::Version => version(Program::Waves),
     }
 }

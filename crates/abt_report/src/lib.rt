@@ -22,4 +22,4 @@ pub use reading::{JOURNAL_LIMIT, read_journal};
 pub use reports::{append_report, report, short_report};
 pub use steps::count_steps;
 pub use text_fault::TextFault;
-pub use words::name_of_cause;
+pub use words::{name_of_cause, name_of_code};

@@ -6,7 +6,8 @@ ghost use Rattle.abt_machine.specs.Texts.{cause_name, code_name, ended_name};
 use abt_lines::{push_decimal, push_word};
 use abt_machine::{Cause, Code, Want};
 
-pub(crate) fn name_of_code(code: Code) -> &'static [u8]
+/// The word of a code in a journal.
+pub fn name_of_code(code: Code) -> &'static [u8]
     ensures { result.now ≡ code_name code }
 {
     match code {

@@ -1,5 +1,5 @@
 -- What words ask for, and what is known of the files that they name.
-use Rattle.std.proofs.Common.{◌≡◌, ◌∙◌, ◌⊎◌, ℕ, List, [], ◌∷◌, Option, Some, None, inl, inr, refl, subst, sym}
+use Rattle.std.proofs.Common.{◌≡◌, ◌∙◌, ◌⊎◌, ℕ, List, [], ◌∷◌, Option, Some, None, inl, inr, ap, refl, subst, sym}
 use Rattle.std.specs.Prelude.{IfSome}
 use Rattle.abt_machine.specs.declared.program.Fault.{Fault}
 use Rattle.abt_machine.specs.declared.workload.Parts.{Parts}
@@ -10,7 +10,7 @@ use Rattle.abt_shell.specs.declared.status.Stop.{Stop}
 use Rattle.abt_shell.specs.declared.status.Stop.TheVariants.{BadWords, BadLine, CannotRead, OutOfMemory}
 use Rattle.abt_shell.specs.declared.status.Wrong.TheVariants.{Workload, Journal, Lives}
 use Rattle.abt_shell.proofs.Fetched.{of-observed}
-use Rattle.abt_view.specs.Call.{LacksJournal, ReadsNames, TellsNames}
+use Rattle.abt_view.specs.Call.{IsNamed, LacksJournal, ReadsNames, TellsNames}
 use Rattle.abt_view.specs.Views.{Asks, AsksFor, Request, topic_word, view_word}
 use Rattle.abt_view.specs.declared.about.Topic.{Topic}
 use Rattle.abt_view.specs.declared.views.View.{View}
@@ -59,6 +59,16 @@ asks-for-none words t v f (Some file) same asks = let other = asks.0 in cc
 
 pub asks-none : (words : List Text) (t : Topic) (q : Request) → words ≡ topic_word t ∷ [] → Asks words q → ⊥
 asks-none words t q same asks = asks-for-none words t q.view q.journal q.workload same asks
+
+-- a file that is asked for is one that the words name
+pub names-journal : (words : List Text) (q : Request) (begun : Option Text) → Asks words q → IfSome begun (λ file. file ≡ q.journal) → IfSome begun (IsNamed words)
+names-journal words q None asks its = tt
+names-journal words q (Some file) asks its = (q, asks, inr its)
+
+pub names-both : (words : List Text) (q : Request) (workload : Text) (begun : Option Text) → Asks words q → q.workload ≡ Some workload
+    → IfSome begun (λ file. (file ≡ workload) ⊎ (file ≡ q.journal)) → IfSome begun (IsNamed words)
+names-both words q workload None asks names its = tt
+names-both words q workload (Some file) asks names its = (q, asks, elim its [ inl first ↦ inl (names ∙ ap (λ (f : Text). Some f) (sym first)) | inr second ↦ inr second ])
 
 -- what is known of the journal's file is known of the bytes that are observed
 pub of-journal : (P : Text → Type 0) (words : List Text) (p q : Request) (bytes : Text) (file_of : Text → Option Text) → Asks words p → Asks words q → file_of q.journal ≡ Some bytes

@@ -13,6 +13,7 @@ use Rattle.abt_shell.specs.declared.status.Wrong.{Wrong}
 use Rattle.abt_shell.specs.declared.status.Wrong.TheVariants.{Workload, Journal, Lives}
 use Rattle.abt_shell.specs.Calls.{EndsBy, HasReadFault, Left, Program}
 use Rattle.abt_shell.specs.Fetched.{StopsFor}
+use Rattle.abt_shell.specs.More.{Adds}
 use Rattle.abt_shell.specs.Told.{Grew}
 use Rattle.abt_view.specs.declared.views.Conclusion.{Conclusion}
 use Rattle.abt_view.specs.declared.views.Conclusion.TheVariants.{Shown, TooLarge, Told}
@@ -29,6 +30,10 @@ pub record Call : Type 1 where
 pub record NamesFile (words : List Text) : Type 0 where
   pub request : Request
   pub asks : Asks words request
+
+-- they ask for a view with this file
+abbrev pub IsNamed : List Text → Text → Type 0
+IsNamed words file = (q : Request) × Asks words q × ((q.workload ≡ Some file) ⊎ (file ≡ q.journal))
 
 -- Files.
 
@@ -102,6 +107,10 @@ LacksJournal (Some workload) file_of faults stop = LacksSecond (file_of workload
 
 -- What each status says.
 
+-- how a view is asked for
+abbrev pub usage : Text
+usage = codes "abtview svg|trace JOURNAL [WORKLOAD]\n"
+
 -- the program: each status says what `Wrote`, `WrotePrefix` or `StoppedBy` of abt_shell states
 abbrev pub program : Call → Program Conclusion
 program c = record {
@@ -109,6 +118,7 @@ program c = record {
   number = number_of_conclusion;
   Prints = Prints c.words c.file;
   Stops = StopsView c.words c.file c.left.read_faults;
+  Adds = Adds usage (IsNamed c.words);
 }
 
 -- if the words ask for the view of a file whose bytes are a journal's text, the workload is known if they name one, and no fault of reading

@@ -1,11 +1,14 @@
+pub mod Args
 pub mod Arrows
 pub mod Bands
 pub mod Call
 pub mod Frames
 pub mod Kinds
+pub mod Labels
 pub mod Named
 pub mod Picture
 pub mod Shapes
 pub mod Stretches
+pub mod Texts
 pub mod Trace
 pub mod Views

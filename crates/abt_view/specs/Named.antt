@@ -1,5 +1,5 @@
--- The operations that events name, as the text of their workload has them.
-use Rattle.std.specs.Prelude.{ℕ, ◌==◌, ◌&&◌, nat_le, Bool, if◌then◌else◌, [], ◌∷◌, ◌++◌, codes, flat_map, Option, Some, None, option_map}
+-- The operations that events name, as the text of their workload has them, and as an svg has that.
+use Rattle.std.specs.Prelude.{ℕ, ◌==◌, ◌&&◌, nat_le, Bool, if◌then◌else◌, [], ◌∷◌, ◌++◌, codes, Option, Some, None, option_map}
 use Rattle.abt_machine.specs.declared.events.Event.{Event}
 use Rattle.abt_machine.specs.declared.events.What.{What}
 use Rattle.abt_machine.specs.declared.events.What.TheVariants as what
@@ -22,11 +22,16 @@ op_named W (what.End u c) = None
 op_named W (what.Enter u) = None
 op_named W (what.Leave u) = None
 
+-- that of an event, if there is a workload that has it
+abbrev pub op_of : Option Parts → What → Option Op
+op_of None w = None
+op_of (Some W) w = op_named W w
+
 -- an operation as its line in the workload's text
 abbrev pub op_text : Parts → Op → Text
 op_text W o = line_of (op_words W o)
 
--- that of an event, if there is a workload that has it
+-- that of the operation of an event, if there is a workload that has it
 abbrev pub operation_of : Option Parts → What → Option Text
 operation_of None what = None
 operation_of (Some W) what = option_map (op_text W) (op_named W what)
@@ -67,17 +72,3 @@ after_line (Some operation) = codes "  " ++ xml_text operation
 -- the line of an event, with its operation
 abbrev pub named_line : Option Parts → Event → Text
 named_line names e = ended (line_of (event_words e) ++ after_line (operation_of names e.what))
-
--- In JSON.
-
--- a byte of a string
-abbrev pub json_byte : ℕ → Text
-json_byte b = if b == 34 then codes "\\\"" else if b == 92 then codes "\\\\" else b ∷ []
-
-abbrev pub json_text : Text → Text
-json_text text = flat_map json_byte text
-
--- the operation as an argument of an item
-abbrev pub args_text : Option Text → Text
-args_text None = []
-args_text (Some operation) = codes ",\"args\":{\"operation\":\"" ++ (json_text operation ++ codes "\"}")

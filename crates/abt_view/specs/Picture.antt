@@ -10,8 +10,9 @@ use Rattle.abt_view.specs.Arrows.{arrows_of}
 use Rattle.abt_view.specs.Bands.{band_at, band_height, bands_in}
 use Rattle.abt_view.specs.Frames.{all_frames}
 use Rattle.abt_view.specs.Kinds.{greatest_stamp, refused_in}
-use Rattle.abt_view.specs.Shapes.{around, bar_in, frame_in, lines_in, mark_in}
+use Rattle.abt_view.specs.Shapes.{bar_in, frame_in, lines_in, mark_in}
 use Rattle.abt_view.specs.Stretches.{all_stretches, streams_in}
+use Rattle.abt_view.specs.Texts.{around}
 
 -- What comes before the bands.
 
@@ -33,7 +34,7 @@ names_text streams = codes "<defs><g id='names'>\n" ++ (flat_map lane_text (rang
 
 -- the picture is wide enough for the kinds of marks, and no wider than a band
 abbrev pub picture_width : List Event → ℕ
-picture_width J = max (min (10 * greatest_stamp J + 20) 19000) 620
+picture_width J = max (min (10 * greatest_stamp J + 20) 19000) 720
 
 -- it is as high as its bands, below the counts
 abbrev pub picture_height : List Event → ℕ

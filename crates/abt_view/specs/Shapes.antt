@@ -1,5 +1,5 @@
 -- What a band shows, as parts of an svg: a stamp is 10 pixels wide.
-use Rattle.std.specs.Prelude.{ℕ, ◌+◌, ◌-◌, ◌*◌, ◌/◌, ◌%◌, if◌then◌else◌, [], ◌++◌, codes, decimal, flat_map, min, Option, Some, None}
+use Rattle.std.specs.Prelude.{ℕ, ◌+◌, ◌-◌, ◌*◌, ◌/◌, ◌%◌, if◌then◌else◌, [], ◌++◌, codes, flat_map, min, Option, Some, None}
 use Rattle.abt_machine.specs.declared.events.Event.{Event}
 use Rattle.abt_machine.specs.declared.workload.Parts.{Parts}
 use Rattle.abt_machine.specs.Words.{Text}
@@ -12,14 +12,12 @@ use Rattle.abt_view.specs.declared.stretches.Stretch.{Stretch}
 use Rattle.abt_view.specs.Arrows.{spot_of}
 use Rattle.abt_view.specs.Bands.{is_in, lane_top}
 use Rattle.abt_view.specs.Kinds.{kind_word}
+use Rattle.abt_view.specs.Labels.{part_in, texts_of}
 use Rattle.abt_view.specs.Named.{named_line}
+use Rattle.abt_view.specs.Texts.{around}
 
--- a number between two texts
-abbrev pub around : Text → ℕ → Text → Text
-around before n after = before ++ (decimal n ++ after)
-
--- The bar of a stretch: its colour by the last digit of the unit's number, its stripes by the digit before, the number, and the lines of
--- its events, each with the operation that it names, if there is a workload that has it.
+-- The bar of a stretch: its colour by the last digit of the unit's number, its stripes by the digit before, the texts that a band shows,
+-- and the lines of its events, each with the operation that it names, if there is a workload that has it.
 abbrev pub bar_place : Stretch → Text
 bar_place b = around (codes "<g class='u") (b.unit % 10) (codes "' transform='translate(") ++ (around [] b.since (codes "0 ") ++ around [] (lane_top b.stream) (codes ")'>"))
 
@@ -35,17 +33,14 @@ jump_text since jump = around (codes "<rect class='jump' x='") (jump.from - sinc
 abbrev pub jumps_text : Stretch → Text
 jumps_text b = flat_map (jump_text b.since) b.jumps
 
-abbrev pub bar_number : Stretch → Text
-bar_number b = around (codes "<text x='2' y='14'>") b.unit (codes "</text>")
-
 abbrev pub bar_title : Option Parts → Stretch → Text
 bar_title names b = codes "<title>" ++ (flat_map (named_line names) b.events ++ codes "</title></g>\n")
 
-abbrev pub bar_text : Option Parts → Stretch → Text
-bar_text names b = bar_place b ++ (bar_shape b ++ (jumps_text b ++ (bar_number b ++ bar_title names b)))
+abbrev pub bar_text : Band → Option Parts → Stretch → Text
+bar_text band names b = bar_place b ++ (bar_shape b ++ (jumps_text b ++ (texts_of (part_in band b) names b ++ bar_title names b)))
 
 abbrev pub bar_in : Band → Option Parts → Stretch → Text
-bar_in band names b = if is_in band b.since b.until then bar_text names b else []
+bar_in band names b = if is_in band b.since b.until then bar_text band names b else []
 
 -- by how many pixels a frame extends beyond the bars and marks within it: a deeper frame extends less
 abbrev pub margin_of : Frame → ℕ

@@ -11,11 +11,11 @@ use Rattle.abt_machine.specs.Words.{Text}
 use Rattle.abt_view.specs.declared.arrows.Arrow.{Arrow}
 use Rattle.abt_view.specs.declared.arrows.Spot.{Spot}
 use Rattle.abt_view.specs.declared.stretches.Stretch.{Stretch}
+use Rattle.abt_view.specs.Args.{args_text, unit_end}
 use Rattle.abt_view.specs.Arrows.{arrows_of, spot_of}
 use Rattle.abt_view.specs.Kinds.{kind_word}
-use Rattle.abt_view.specs.Named.{args_text, operation_of}
-use Rattle.abt_view.specs.Shapes.{around}
 use Rattle.abt_view.specs.Stretches.{all_stretches, streams_in}
+use Rattle.abt_view.specs.Texts.{around}
 
 -- the name of a stream's track
 abbrev pub track_name : ℕ → Text
@@ -28,21 +28,22 @@ track_place s = around (codes ",\n{\"ph\":\"M\",\"pid\":0,\"tid\":") s (codes ",
 abbrev pub track_text : ℕ → Text
 track_text s = track_name s ++ track_place s
 
--- the slice of a stretch
+-- the slice of a stretch, with its unit as its argument
 abbrev pub slice_text : Stretch → Text
 slice_text b =
     around (codes ",\n{\"ph\":\"X\",\"pid\":0,\"tid\":") b.stream (codes ",\"ts\":")
-    ++ (around [] b.since (codes ".0,\"dur\":") ++ (around [] (b.until - b.since) (codes ".8,\"cat\":\"stretch\",\"name\":\"unit ") ++ around [] b.unit (codes "\"}")))
+    ++ (around [] b.since (codes ".0,\"dur\":") ++ (around [] (b.until - b.since) (codes ".8,\"cat\":\"stretch\",\"name\":\"unit ") ++ unit_end b.unit))
 
 -- the beginning of an item: its phase, the event's track, and a time at that fraction of a microsecond after the stamp
 abbrev pub item_text : Text → Spot → Text → Text
 item_text phase at fraction = codes ",\n{\"ph\":\"" ++ (phase ++ (around (codes "\",\"pid\":0,\"tid\":") at.stream (codes ",\"ts\":") ++ around [] at.stamp fraction))
 
--- the slice of an event, within that of its stretch; the operation that the event names is its argument, if there is a workload that has it
+-- the slice of an event, within that of its stretch, with its arguments: its unit, the operation that it names and the object of that, if
+-- there is a workload that has it, and the code of a step or the value of a call
 abbrev pub moment_text : Option Parts → Event → Text
 moment_text names e =
     item_text (codes "X") (spot_of e) (codes ".1")
-    ++ (codes ",\"dur\":0.6,\"cat\":\"event\",\"name\":\"" ++ (kind_word e.what ++ (codes "\"" ++ (args_text (operation_of names e.what) ++ codes "}"))))
+    ++ (codes ",\"dur\":0.6,\"cat\":\"event\",\"name\":\"" ++ (kind_word e.what ++ (codes "\"" ++ (args_text names e.what ++ codes "}"))))
 
 -- the instant of an event
 abbrev pub instant_text : Event → ℕ → Text
@@ -54,7 +55,7 @@ call_text e u n = item_text (codes "i") (spot_of e) (codes ".4") ++ (around (cod
 
 -- the beginning and the end of a stacked scheduler's frame
 abbrev pub enter_text : Event → ℕ → Text
-enter_text e u = item_text (codes "B") (spot_of e) (codes ".9") ++ around (codes ",\"cat\":\"frame\",\"name\":\"scheduler unit ") u (codes "\"}")
+enter_text e u = item_text (codes "B") (spot_of e) (codes ".9") ++ (codes ",\"cat\":\"frame\",\"name\":\"scheduler unit " ++ unit_end u)
 
 abbrev pub leave_text : Event → Text
 leave_text e = item_text (codes "E") (spot_of e) (codes ".9") ++ codes "}"

@@ -3,13 +3,15 @@ use Rattle.std.specs.Prelude.{◌≡◌, ◌≢◌, ℕ, if◌then◌else◌, Li
 use Rattle.abt_machine.specs.declared.events.Event.{Event}
 use Rattle.abt_machine.specs.declared.workload.Parts.{Parts}
 use Rattle.abt_machine.specs.Words.{Text}
-use Rattle.abt_view.specs.declared.about.TheConstants.{HELP, VERSION}
+use Rattle.abt_view.specs.declared.about.TheConstants.{HELP}
 use Rattle.abt_view.specs.declared.about.Topic.{Topic}
 use Rattle.abt_view.specs.declared.about.Topic.TheVariants as topic
 use Rattle.abt_view.specs.declared.views.Conclusion.{Conclusion}
 use Rattle.abt_view.specs.declared.views.Conclusion.TheVariants.{Shown, TooLarge, Told}
 use Rattle.abt_view.specs.declared.views.View.{View}
 use Rattle.abt_view.specs.declared.views.View.TheVariants as view
+use Rattle.abt_words.specs.declared.versions.Program.TheVariants as program
+use Rattle.abt_words.specs.Versions.{version_text}
 use Rattle.abt_view.specs.Picture.{is_small, svg_text}
 use Rattle.abt_view.specs.Trace.{trace_text}
 
@@ -50,7 +52,7 @@ topic_word topic.Version = codes "--version"
 
 abbrev pub topic_text : Topic → Text
 topic_text topic.Help = HELP.now
-topic_text topic.Version = VERSION.now
+topic_text topic.Version = version_text program.View
 
 abbrev pub IsNoTopic : Text → Type 0
 IsNoTopic word = (t : Topic) → topic_word t ≡ word → ⊥

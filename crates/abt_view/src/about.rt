@@ -3,6 +3,8 @@
 ghost use Rattle.std.specs.Prelude.{◌≡◌, ◌∷◌, [], MatchOption, map, string_bytes};
 ghost use Rattle.abt_view.specs.Views.{AsksNoTopic, IsNoTopic, topic_text, topic_word};
 
+use abt_words::{Program, version};
+
 /// How the program is called.
 pub const HELP: &[u8] = b"abtview draws the journal of a run, or lists it as a trace.
 
@@ -19,9 +21,6 @@ exit statuses: 0 written, 2 bad command line, 3 a file is refused, 5 cannot read
 6 cannot write, 7 out of memory, 8 the journal is too large to be drawn
 ";
 
-/// The version of the program.
-pub const VERSION: &[u8] = b"abtview 1\n";
-
 /// What the program says of itself: how it is called, or its version.
 #[derive(Clone, Copy, Debug, PartialEq, Eq)]
 pub enum Topic {
@@ -36,7 +35,7 @@ impl Topic {
     {
         match self {
             Topic::Help => HELP,
-            Topic::Version => VERSION,
+            Topic::Version => version(Program::View),
         }
     }
 }

@@ -3,10 +3,12 @@
 #![tactic(auto)]
 
 mod about;
+mod args;
 mod arrows;
 mod bands;
 mod frames;
 mod kinds;
+mod labels;
 mod named;
 mod pictures;
 mod program;
@@ -17,7 +19,7 @@ mod texts;
 mod traces;
 mod views;
 
-pub use about::{HELP, Topic, VERSION, asked_topic};
+pub use about::{HELP, Topic, asked_topic};
 pub use arrows::{Arrow, Spot, all_arrows};
 pub use frames::{Frame, all_frames};
 pub use pictures::{is_drawn, svg};

@@ -1,11 +1,11 @@
-//! The operations that events name, in an svg and in JSON.
+//! The operations that events name, and what an svg has of them.
 
 ghost use Rattle.std.specs.Prelude.{◌≡◌, ◌++◌, IfOk, OnOk, option_map};
 ghost use Rattle.abt_machine.specs.Operations.{IsDeclared};
 ghost use Rattle.abt_machine.specs.Texts.{event_words};
 ghost use Rattle.abt_machine.specs.Words.{line_of};
 ghost use Rattle.abt_machine.specs.Workloads.{op_at};
-ghost use Rattle.abt_view.specs.Named.{after_line, args_text, is_no_character as is_none_of, json_byte, json_text, named_line, op_named as op_named_by, op_text, operation_of as operation_of_event, xml_after, xml_byte, xml_byte_after};
+ghost use Rattle.abt_view.specs.Named.{after_line, is_no_character as is_none_of, named_line, op_named as op_named_by, op_of as op_of_event, op_text, operation_of as operation_of_event, xml_after, xml_byte, xml_byte_after, xml_text};
 
 use abt_lines::end_line;
 use abt_machine::{Event, Items, Op, UnitNo, Want, What, Workload};
@@ -37,6 +37,16 @@ fn op_named(w: &Workload, what: What) -> Option<Op>
     }
 }
 
+// That of an event, if there is a workload that has it.
+pub(crate) fn op_of(names: &Option<Workload>, what: What) -> Option<Op>
+    ensures { result ≡ op_of_event names.now what }
+{
+    match names {
+        None => None,
+        Some(w) => op_named(w, what),
+    }
+}
+
 // An operation as its line in the workload's text.
 fn text_of(alloc: Global, w: &Workload, op: Op) -> Result<Vec<u8>, Want>
     requires { IsDeclared w.now op }
@@ -48,7 +58,7 @@ fn text_of(alloc: Global, w: &Workload, op: Op) -> Result<Vec<u8>, Want>
 }
 
 // The operation that an event names, if there is a workload that has it.
-fn operation_of(
+pub(crate) fn operation_of(
     alloc: Global,
     names: &Option<Workload>,
     what: What,
@@ -114,6 +124,13 @@ fn push_xml_after(out: &mut Vec<u8>, a: u8, b: u8, text: &[u8]) -> Result<(), Wa
     }
 }
 
+// Appends a text in an svg.
+pub(crate) fn push_xml(out: &mut Vec<u8>, text: &[u8]) -> Result<(), Want>
+    ensures { OnOk result (out.new.items ≡ out.old.items ++ xml_text text.now) }
+{
+    push_xml_after(out, 0, 0, text)
+}
+
 // Appends an operation after a line.
 fn push_after_line(out: &mut Vec<u8>, operation: &Option<Vec<u8>>) -> Result<(), Want>
     ensures { OnOk result (out.new.items ≡ out.old.items ++ after_line (option_map (λ text. text.items) operation.now)) }
@@ -122,7 +139,7 @@ fn push_after_line(out: &mut Vec<u8>, operation: &Option<Vec<u8>>) -> Result<(),
         None => Ok(()),
         Some(text) => {
             out.extend_from_slice(b"  ")?;
-            push_xml_after(out, 0, 0, text)
+            push_xml(out, text)
         }
     }
 }
@@ -152,54 +169,4 @@ pub(crate) fn push_named_line(
     push_event(alloc, out, event)?;
     push_after_line(out, &operation)?;
     end_line(out)
-}
-
-// Appends a byte to a string in JSON.
-fn push_json_byte(out: &mut Vec<u8>, b: u8) -> Result<(), Want>
-    ensures { OnOk result (out.new.items ≡ out.old.items ++ json_byte b) }
-{
-    match b {
-        b'"' => out.extend_from_slice(b"\\\"")?,
-        b'\\' => out.extend_from_slice(b"\\\\")?,
-        _ => out.push(b)?,
-    }
-    Ok(())
-}
-
-// Appends a text to a string in JSON.
-fn push_json(out: &mut Vec<u8>, text: &[u8]) -> Result<(), Want>
-    ensures { OnOk result (out.new.items ≡ out.old.items ++ json_text text.now) }
-{
-    for b in text {
-        push_json_byte(out, *b)?;
-    }
-    Ok(())
-}
-
-// Appends an operation as the arguments of an item.
-fn push_args_of(out: &mut Vec<u8>, operation: &Option<Vec<u8>>) -> Result<(), Want>
-    ensures { OnOk result (out.new.items ≡ out.old.items ++ args_text (option_map (λ text. text.items) operation.now)) }
-{
-    match operation {
-        None => Ok(()),
-        Some(text) => {
-            out.extend_from_slice(b",\"args\":{\"operation\":\"")?;
-            push_json(out, text)?;
-            out.extend_from_slice(b"\"}")?;
-            Ok(())
-        }
-    }
-}
-
-// Appends the operation that an event names as the arguments of its item, if there is a workload that has it.
-pub(crate) fn push_args(
-    alloc: Global,
-    out: &mut Vec<u8>,
-    names: &Option<Workload>,
-    what: What,
-) -> Result<(), Want>
-    ensures { OnOk result (out.new.items ≡ out.old.items ++ args_text (operation_of_event names.now what)) }
-{
-    let operation = operation_of(alloc, names, what)?;
-    push_args_of(out, &operation)
 }

@@ -103,7 +103,7 @@ fn picture_width(journal: &[Event]) -> u64
     requires { greatest_stamp journal.now ≤ 20000 }
     ensures { result ≡ width_of journal.now }
 {
-    (10 * greatest_stamp(journal) + 20).min(19_000).max(620)
+    (10 * greatest_stamp(journal) + 20).min(19_000).max(720)
 }
 
 // How high the picture is: as its bands, below the counts.

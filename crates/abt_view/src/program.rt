@@ -1,23 +1,26 @@
 //! The top call.
 
-ghost use Rattle.std.specs.Prelude.{◌≡◌, ◌≢◌, ◌≤◌, IfErr, IfOk, IsErrAnd, IsErrOf, List, None, Some, map, string_bytes};
+ghost use Rattle.std.specs.Prelude.{◌≡◌, ◌≢◌, ◌≤◌, ◌⊎◌, IfErr, IfOk, IfSome, IsErrAnd, IsErrOf, List, None, Some, map, string_bytes};
 ghost use Rattle.abt_machine.specs.Words.{Text};
 ghost use Rattle.abt_run.specs.Prepared.{LacksSecond};
 ghost use Rattle.abt_shell.specs.Calls.{left};
 ghost use Rattle.abt_shell.specs.Fetched.{HasNoJournal};
 ghost use Rattle.abt_shell.specs.declared.status.Stop.TheVariants.{CannotRead, OutOfMemory};
-ghost use Rattle.abt_view.specs.Call.{IsAnswered, IsFileView, IsViewOf, LacksJournal, Prints, StopsView};
+ghost use Rattle.abt_view.specs.Call.{IsAnswered, IsFileView, IsNamed, IsViewOf, LacksJournal, Prints, StopsView};
 ghost use Rattle.abt_view.specs.Views.{Asks, AsksNoTopic, Request, request, topic_text};
 
 use crate::about::{Topic, asked_topic};
 use crate::views::{Conclusion, View, asked, conclude, view_text};
 use abt_run::fetch;
-use abt_shell::{Stop, fetch_journal, stop_by, write_out};
+use abt_shell::{Stop, fetch_journal, more_of, stop_by, write_out};
 use abt_source::{Files, Sink};
 use std::alloc::Global;
 
 /// The name of the program.
 pub const NAME: &[u8] = b"abtview";
+
+// How a view is asked for.
+const USAGE: &[u8] = b"abtview svg|trace JOURNAL [WORKLOAD]\n";
 
 // What a call prints, and to what it comes.
 #[derive(Drop)]
@@ -37,6 +40,7 @@ fn prepare_view<F: Files>(
     ensures stop { IfErr result (HasNoJournal (F.file files.old file.now) (F.faults files.old, F.faults files.new)) }
     ensures absent { F.absent files.old file.now → IsErrOf result CannotRead }
     ensures faulty { F.faults files.new ≢ F.faults files.old → IsErrOf result CannotRead }
+    ensures begun { IfSome (F.begun files.new) (λ name. name ≡ file.now) }
     ensures later { F.faults files.old ≤ F.faults files.new }
 {
     let journal = fetch_journal(alloc, file, files)?;
@@ -61,6 +65,7 @@ fn prepare_named<F: Files>(
     ensures absent { F.absent files.old workload.now → IsErrOf result CannotRead }
     ensures missing { F.absent files.old journal.now → IsErrAnd result (LacksSecond (F.file files.old workload.now) (F.faults files.old, F.faults files.new)) }
     ensures faulty { F.faults files.new ≢ F.faults files.old → IsErrOf result CannotRead }
+    ensures begun { IfSome (F.begun files.new) (λ name. (name ≡ workload.now) ⊎ (name ≡ journal.now)) }
     ensures later { F.faults files.old ≤ F.faults files.new }
 {
     let w = fetch(alloc, workload, files)?;
@@ -93,6 +98,7 @@ fn prepare_asked<F: Files>(alloc: Global, words: &[String], files: &mut F) -> Re
     ensures absent { (q : Request) → Asks (map string_bytes words.now) q → F.absent files.old q.journal
         → IsErrAnd result (LacksJournal q.workload (λ name. F.file files.old name) (F.faults files.old, F.faults files.new)) }
     ensures faulty { F.faults files.new ≢ F.faults files.old → IsErrOf result CannotRead }
+    ensures named { IfErr result (λ stop. stop ≡ CannotRead → IfSome (F.begun files.new) (IsNamed (map string_bytes words.now))) }
     ensures later { F.faults files.old ≤ F.faults files.new }
 {
     match asked(words) {
@@ -112,6 +118,7 @@ fn prepare<F: Files>(alloc: Global, words: &[String], files: &mut F) -> Result<P
     ensures absent { (q : Request) → Asks (map string_bytes words.now) q → F.absent files.old q.journal
         → IsErrAnd result (LacksJournal q.workload (λ name. F.file files.old name) (F.faults files.old, F.faults files.new)) }
     ensures faulty { F.faults files.new ≢ F.faults files.old → IsErrOf result CannotRead }
+    ensures named { IfErr result (λ stop. stop ≡ CannotRead → IfSome (F.begun files.new) (IsNamed (map string_bytes words.now))) }
     ensures later { F.faults files.old ≤ F.faults files.new }
 {
     match asked_topic(words) {
@@ -141,6 +148,9 @@ pub fn abtview<F: Files, K: Sink, E: Sink>(
 {
     match prepare(alloc, words, files) {
         Ok(it) => write_out(NAME, out, err, &it.text, it.conclusion.number()),
-        Err(stop) => stop_by(alloc, NAME, err, stop).number(),
+        Err(stop) => {
+            let more = more_of(stop, USAGE, files.fault());
+            stop_by(alloc, NAME, err, stop, more).number()
+        }
     }
 }

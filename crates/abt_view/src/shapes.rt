@@ -2,12 +2,13 @@
 
 ghost use Rattle.std.specs.Prelude.{◌≡◌, ◌++◌, OnOk, flat_map};
 ghost use Rattle.abt_view.specs.Named.{named_line};
-ghost use Rattle.abt_view.specs.Shapes.{bar_in, bar_number, bar_place, bar_shape, bar_text, bar_title, frame_in, frame_place, frame_shape, frame_text, jump_text, jumps_text, line_in, line_text, lines_by, lines_in, margin_of, mark_in, mark_text, place_text, point_text, quiet_in, quiet_text};
+ghost use Rattle.abt_view.specs.Shapes.{bar_in, bar_place, bar_shape, bar_text, bar_title, frame_in, frame_place, frame_shape, frame_text, jump_text, jumps_text, line_in, line_text, lines_by, lines_in, margin_of, mark_in, mark_text, place_text, point_text, quiet_in, quiet_text};
 
 use crate::arrows::{Arrow, Spot, spot_at};
 use crate::bands::{Band, lane_top};
 use crate::frames::Frame;
 use crate::kinds::word;
+use crate::labels::push_texts;
 use crate::named::push_named_line;
 use crate::stretches::{Jump, Stretch};
 use crate::texts::push_around;
@@ -75,13 +76,6 @@ fn push_hatched(out: &mut Vec<u8>, bar: &Stretch) -> Result<(), Want>
     Ok(())
 }
 
-// Appends the number of a bar's unit.
-fn push_number_of(out: &mut Vec<u8>, bar: &Stretch) -> Result<(), Want>
-    ensures { OnOk result (out.new.items ≡ out.old.items ++ bar_number bar.now) }
-{
-    push_around(out, b"<text x='2' y='14'>", u64::from(bar.unit), b"</text>")
-}
-
 // Appends the lines of events, each with the operation that it names, if there is a workload that has it.
 fn push_named_lines(
     alloc: Global,
@@ -112,19 +106,20 @@ fn push_title(
     Ok(())
 }
 
-// Appends the bar of a stretch.
+// Appends the bar of a stretch, with the texts that a band shows.
 fn push_bar(
     alloc: Global,
     out: &mut Vec<u8>,
+    band: Band,
     names: &Option<Workload>,
     bar: &Stretch,
 ) -> Result<(), Want>
-    ensures { OnOk result (out.new.items ≡ out.old.items ++ bar_text names.now bar.now) }
+    ensures { OnOk result (out.new.items ≡ out.old.items ++ bar_text band names.now bar.now) }
 {
     push_place(out, bar)?;
     push_shape(out, bar)?;
     push_hatched(out, bar)?;
-    push_number_of(out, bar)?;
+    push_texts(alloc, out, band, names, bar)?;
     push_title(alloc, out, names, bar)
 }
 
@@ -139,7 +134,7 @@ pub(crate) fn push_bar_in(
     ensures { OnOk result (out.new.items ≡ out.old.items ++ bar_in band names.now bar.now) }
 {
     if band.shows(bar.since, bar.until) {
-        return push_bar(alloc, out, names, bar);
+        return push_bar(alloc, out, band, names, bar);
     }
     Ok(())
 }

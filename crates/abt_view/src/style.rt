@@ -8,13 +8,14 @@ path.lane{stroke:#ccc}
 .counts{font-weight:bold}
 g>rect{stroke:#333;stroke-width:.5}
 .frame{fill:#06c;fill-opacity:.08;stroke:#06c}
-.arrow{fill:none;stroke:#06c;opacity:.6}
+.arrow{fill:none;stroke:#06c;opacity:.7;marker-end:url(#head)}
 .u0{fill:#9ecae1}.u1{fill:#fdae6b}.u2{fill:#a1d99b}.u3{fill:#fa9fb5}.u4{fill:#bcbddc}
 .u5{fill:#ffe066}.u6{fill:#80d8c3}.u7{fill:#d9b38c}.u8{fill:#c7e59a}.u9{fill:#d0d0d0}
 .t0{fill:none}.t1{fill:url(#t1)}.t2{fill:url(#t2)}.t3{fill:url(#t3)}.t4{fill:url(#t4)}
 .t5{fill:url(#t5)}.t6{fill:url(#t6)}.t7{fill:url(#t7)}.t8{fill:url(#t8)}.t9{fill:url(#t9)}
 g>.jump{fill:url(#jump);stroke:none}
-g>text{fill:#000;paint-order:stroke;stroke:#fff;stroke-width:2px;stroke-opacity:.6}
+g>text{fill:#000;paint-order:stroke;stroke:#fff;stroke-width:2.5px;stroke-opacity:.8}
+.op{font:8.4px monospace}
 use{pointer-events:none}
 .quiet>use{pointer-events:all}
 .quiet>path{opacity:0;pointer-events:none}
@@ -33,10 +34,11 @@ use{pointer-events:none}
 <pattern id='t9' width='3' height='3' patternUnits='userSpaceOnUse'><path d='M0 1h3'/></pattern>
 </g>
 <pattern id='jump' width='4' height='4' patternUnits='userSpaceOnUse'><path d='M0 0h4v4H0z' fill='#fff' fill-opacity='.7'/><path d='M0 4l4 -4' stroke='#888'/></pattern>
+<marker id='head' viewBox='0 0 6 6' refX='5' refY='3' markerWidth='5' markerHeight='5' orient='auto'><path d='M0 0l6 3l-6 3z' fill='#06c'/></marker>
 <path id='tick' d='M0 16V4000' stroke='#eee'/>
 <path id='spot' d='M0 20h10v12H0z' fill='none'/>
-<path id='miss' d='M3 26h4' stroke='#bbb'/>
-<path id='look' d='M5 24v4' stroke='#bbb'/>
+<path id='miss' d='M3 26h4' stroke='#888'/>
+<path id='look' d='M5 24v4' stroke='#888'/>
 <path id='take' d='M5 30v-8m-3 3l3 -3l3 3' fill='none' stroke='#333'/>
 <path id='put' d='M5 22v8m-3 -3l3 3l3 -3' fill='none' stroke='#333'/>
 <path id='step' d='M5 23v6' stroke='#333' stroke-width='2'/>
@@ -67,6 +69,8 @@ pub(crate) const LEGEND: &[u8] = b"<path d='M-8 -8h1000v60H-8z' fill='#fff'/>
 <use href='#enter' x='458' y='-20'/><text x='470' y='10'>enter</text>
 <use href='#leave' x='504' y='-20'/><text x='516' y='10'>leave</text>
 <use href='#call' x='552' y='-20'/><text x='565' y='10'>call</text>
+<path class='arrow' d='M596 6h18'/><text x='619' y='10'>sent</text>
+<path d='M654 1h12v10h-12z' fill='url(#jump)' stroke='#333' stroke-width='.5'/><text x='671' y='10'>jump</text>
 </g>
 </g></defs>
 ";

@@ -1,7 +1,7 @@
 //! Numbers between texts, appended to a text.
 
 ghost use Rattle.std.specs.Prelude.{◌≡◌, ◌++◌, OnOk};
-ghost use Rattle.abt_view.specs.Shapes.{around};
+ghost use Rattle.abt_view.specs.Texts.{around};
 
 use abt_lines::push_number;
 use abt_machine::Want;

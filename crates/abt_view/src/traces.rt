@@ -4,9 +4,9 @@ ghost use Rattle.std.specs.Prelude.{◌≡◌, ◌++◌, IfOk, OnOk, flat_map};
 ghost use Rattle.std.specs.List.{range_with_len};
 ghost use Rattle.abt_view.specs.Trace.{arrow_text, call_text, enter_text, event_text, instant_text, item_text, leave_text, moment_text, more_text, point_text, points_text, slice_text, step_more, trace_text, track_name, track_place, track_text};
 
+use crate::args::{push_args, push_unit_end};
 use crate::arrows::{Arrow, Spot, all_arrows, spot_at};
 use crate::kinds::word;
-use crate::named::push_args;
 use crate::stretches::{Stretch, all_stretches, count_streams};
 use crate::texts::push_around;
 use abt_machine::{Code, Event, Want, What, Workload};
@@ -69,7 +69,7 @@ fn push_slice(out: &mut Vec<u8>, slice: &Stretch) -> Result<(), Want>
     )?;
     push_around(out, b"", slice.since, b".0,\"dur\":")?;
     push_around(out, b"", length, b".8,\"cat\":\"stretch\",\"name\":\"unit ")?;
-    push_around(out, b"", u64::from(slice.unit), b"\"}")
+    push_unit_end(out, slice.unit)
 }
 
 // Appends the slices of stretches.
@@ -110,7 +110,7 @@ fn push_moment(
     out.extend_from_slice(b",\"dur\":0.6,\"cat\":\"event\",\"name\":\"")?;
     out.extend_from_slice(word(event.what))?;
     out.extend_from_slice(b"\"")?;
-    push_args(alloc, out, names, event.what)?;
+    push_args(alloc, out, names, event)?;
     out.extend_from_slice(b"}")?;
     Ok(())
 }
@@ -154,12 +154,8 @@ fn push_enter(out: &mut Vec<u8>, event: &Event, u: u32) -> Result<(), Want>
     ensures { OnOk result (out.new.items ≡ out.old.items ++ enter_text event.now u) }
 {
     push_item(out, b"B", spot_at(event), b".9")?;
-    push_around(
-        out,
-        b",\"cat\":\"frame\",\"name\":\"scheduler unit ",
-        u64::from(u),
-        b"\"}",
-    )
+    out.extend_from_slice(b",\"cat\":\"frame\",\"name\":\"scheduler unit ")?;
+    push_unit_end(out, u)
 }
 
 // Appends the end of a frame.
@@ -269,7 +265,7 @@ fn push_arrows(out: &mut Vec<u8>, arrows: &[Arrow]) -> Result<(), Want>
     Ok(())
 }
 
-/// The trace of a journal, as JSON in the trace event format, with the operations that its events name if there is a workload.
+/// The trace of a journal, as JSON in the trace event format, with the operations and objects that its events name if there is a workload.
 pub fn trace(alloc: Global, names: &Option<Workload>, journal: &[Event]) -> Result<Vec<u8>, Want>
     ensures { IfOk result (λ text. text.items ≡ trace_text names.now journal.now) }
 {

@@ -5,3 +5,4 @@ pub mod Commands
 pub mod Lives
 pub mod Rests
 pub mod Steps
+pub mod Versions

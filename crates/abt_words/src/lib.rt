@@ -20,6 +20,7 @@ mod options;
 mod run;
 mod self_run;
 mod steps;
+mod versions;
 
 pub use command::words;
 pub use commands::{CheckWords, Command, ExploreWords, RunWords, Schedule, Shows};
@@ -29,3 +30,4 @@ pub use itself::{Topic, about};
 pub use lives::{LivesWords, lives_words};
 pub use numbers::number;
 pub use steps::{DEFAULT_STEPS, allowed_steps, default_steps};
+pub use versions::{Program, version};

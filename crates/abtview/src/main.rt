@@ -11,7 +11,7 @@ fn main(rt: HostRuntime) -> ExitCode {
         abtview(
             rt.alloc(),
             words,
-            &mut RealFiles::new(&rt),
+            &mut RealFiles::new(&rt, rt.alloc()),
             &mut RealSink::out(&rt),
             &mut RealSink::err(&rt),
         )

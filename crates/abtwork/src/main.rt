@@ -12,7 +12,7 @@ fn main(rt: HostRuntime) -> ExitCode {
             &rt,
             rt.alloc(),
             words,
-            &mut RealFiles::new(&rt),
+            &mut RealFiles::new(&rt, rt.alloc()),
             &mut RealSink::out(&rt),
             &mut RealSink::err(&rt),
         )

@@ -9,7 +9,7 @@ const NAME: &str = "real-files-whole";
 
 // Whether the file is read so, if no more than `most` bytes are asked for.
 fn is_read(rt: &HostRuntime, alloc: Global, most: u32, wanted: &[u8]) -> Result<bool, NotFetched> {
-    let mut files = RealFiles::new(rt);
+    let mut files = RealFiles::new(rt, alloc);
     let read = read_all(alloc, &mut files, NAME, most as usize)?;
     Ok(read.as_slice() == wanted)
 }
@@ -34,7 +34,7 @@ fn is_not_fetched(alloc: Global, files: &mut RealFiles<'_, HostRuntime>, name: &
 
 #[test]
 fn an_absent_name_and_a_folder_are_not_fetched(rt: HostRuntime) {
-    let mut files = RealFiles::new(&rt);
+    let mut files = RealFiles::new(&rt, rt.alloc());
     let absent = is_not_fetched(rt.alloc(), &mut files, "real-files-absent");
     let nothing = files.read(&mut [0]) == Ok(0);
     let folder = is_not_fetched(rt.alloc(), &mut files, ".");

@@ -15,9 +15,9 @@ const REFUSED: &str = "{\"traceEvents\":[
 {\"ph\":\"M\",\"pid\":0,\"name\":\"process_name\",\"args\":{\"name\":\"abtrun\"}},
 {\"ph\":\"M\",\"pid\":0,\"tid\":0,\"name\":\"thread_name\",\"args\":{\"name\":\"stream 0\"}},
 {\"ph\":\"M\",\"pid\":0,\"tid\":0,\"name\":\"thread_sort_index\",\"args\":{\"sort_index\":0}},
-{\"ph\":\"X\",\"pid\":0,\"tid\":0,\"ts\":1.0,\"dur\":1.8,\"cat\":\"stretch\",\"name\":\"unit 7\"},
-{\"ph\":\"X\",\"pid\":0,\"tid\":0,\"ts\":1.1,\"dur\":0.6,\"cat\":\"event\",\"name\":\"take\"},
-{\"ph\":\"X\",\"pid\":0,\"tid\":0,\"ts\":2.1,\"dur\":0.6,\"cat\":\"event\",\"name\":\"refused\"},
+{\"ph\":\"X\",\"pid\":0,\"tid\":0,\"ts\":1.0,\"dur\":1.8,\"cat\":\"stretch\",\"name\":\"unit 7\",\"args\":{\"unit\":7}},
+{\"ph\":\"X\",\"pid\":0,\"tid\":0,\"ts\":1.1,\"dur\":0.6,\"cat\":\"event\",\"name\":\"take\",\"args\":{\"unit\":7}},
+{\"ph\":\"X\",\"pid\":0,\"tid\":0,\"ts\":2.1,\"dur\":0.6,\"cat\":\"event\",\"name\":\"refused\",\"args\":{\"unit\":7,\"code\":\"absent\"}},
 {\"ph\":\"i\",\"pid\":0,\"tid\":0,\"ts\":2.4,\"s\":\"t\",\"name\":\"refused, unit 7\"}
 ]}
 ";
@@ -26,9 +26,9 @@ const CALLED: &str = "{\"traceEvents\":[
 {\"ph\":\"M\",\"pid\":0,\"name\":\"process_name\",\"args\":{\"name\":\"abtrun\"}},
 {\"ph\":\"M\",\"pid\":0,\"tid\":0,\"name\":\"thread_name\",\"args\":{\"name\":\"stream 0\"}},
 {\"ph\":\"M\",\"pid\":0,\"tid\":0,\"name\":\"thread_sort_index\",\"args\":{\"sort_index\":0}},
-{\"ph\":\"X\",\"pid\":0,\"tid\":0,\"ts\":1.0,\"dur\":1.8,\"cat\":\"stretch\",\"name\":\"unit 7\"},
-{\"ph\":\"X\",\"pid\":0,\"tid\":0,\"ts\":1.1,\"dur\":0.6,\"cat\":\"event\",\"name\":\"take\"},
-{\"ph\":\"X\",\"pid\":0,\"tid\":0,\"ts\":2.1,\"dur\":0.6,\"cat\":\"event\",\"name\":\"call\"},
+{\"ph\":\"X\",\"pid\":0,\"tid\":0,\"ts\":1.0,\"dur\":1.8,\"cat\":\"stretch\",\"name\":\"unit 7\",\"args\":{\"unit\":7}},
+{\"ph\":\"X\",\"pid\":0,\"tid\":0,\"ts\":1.1,\"dur\":0.6,\"cat\":\"event\",\"name\":\"take\",\"args\":{\"unit\":7}},
+{\"ph\":\"X\",\"pid\":0,\"tid\":0,\"ts\":2.1,\"dur\":0.6,\"cat\":\"event\",\"name\":\"call\",\"args\":{\"unit\":7,\"value\":\"18446744073709551615\"}},
 {\"ph\":\"i\",\"pid\":0,\"tid\":0,\"ts\":2.4,\"s\":\"t\",\"name\":\"call, unit 7, returned 18446744073709551615\"}
 ]}
 ";
@@ -37,8 +37,8 @@ const EXITED: &str = "{\"traceEvents\":[
 {\"ph\":\"M\",\"pid\":0,\"name\":\"process_name\",\"args\":{\"name\":\"abtrun\"}},
 {\"ph\":\"M\",\"pid\":0,\"tid\":0,\"name\":\"thread_name\",\"args\":{\"name\":\"stream 0\"}},
 {\"ph\":\"M\",\"pid\":0,\"tid\":0,\"name\":\"thread_sort_index\",\"args\":{\"sort_index\":0}},
-{\"ph\":\"X\",\"pid\":0,\"tid\":0,\"ts\":1.0,\"dur\":0.8,\"cat\":\"stretch\",\"name\":\"unit 7\"},
-{\"ph\":\"X\",\"pid\":0,\"tid\":0,\"ts\":1.1,\"dur\":0.6,\"cat\":\"event\",\"name\":\"own\"},
+{\"ph\":\"X\",\"pid\":0,\"tid\":0,\"ts\":1.0,\"dur\":0.8,\"cat\":\"stretch\",\"name\":\"unit 7\",\"args\":{\"unit\":7}},
+{\"ph\":\"X\",\"pid\":0,\"tid\":0,\"ts\":1.1,\"dur\":0.6,\"cat\":\"event\",\"name\":\"own\",\"args\":{\"unit\":7}},
 {\"ph\":\"i\",\"pid\":0,\"tid\":0,\"ts\":1.4,\"s\":\"t\",\"name\":\"own, unit 7\"}
 ]}
 ";
@@ -49,11 +49,11 @@ const WOKEN: &str = "{\"traceEvents\":[
 {\"ph\":\"M\",\"pid\":0,\"tid\":0,\"name\":\"thread_sort_index\",\"args\":{\"sort_index\":0}},
 {\"ph\":\"M\",\"pid\":0,\"tid\":1,\"name\":\"thread_name\",\"args\":{\"name\":\"stream 1\"}},
 {\"ph\":\"M\",\"pid\":0,\"tid\":1,\"name\":\"thread_sort_index\",\"args\":{\"sort_index\":1}},
-{\"ph\":\"X\",\"pid\":0,\"tid\":0,\"ts\":1.0,\"dur\":0.8,\"cat\":\"stretch\",\"name\":\"unit 7\"},
-{\"ph\":\"X\",\"pid\":0,\"tid\":1,\"ts\":3.0,\"dur\":0.8,\"cat\":\"stretch\",\"name\":\"unit 8\"},
-{\"ph\":\"X\",\"pid\":0,\"tid\":0,\"ts\":1.1,\"dur\":0.6,\"cat\":\"event\",\"name\":\"step\"},
-{\"ph\":\"X\",\"pid\":0,\"tid\":0,\"ts\":2.1,\"dur\":0.6,\"cat\":\"event\",\"name\":\"put\"},
-{\"ph\":\"X\",\"pid\":0,\"tid\":1,\"ts\":3.1,\"dur\":0.6,\"cat\":\"event\",\"name\":\"take\"},
+{\"ph\":\"X\",\"pid\":0,\"tid\":0,\"ts\":1.0,\"dur\":0.8,\"cat\":\"stretch\",\"name\":\"unit 7\",\"args\":{\"unit\":7}},
+{\"ph\":\"X\",\"pid\":0,\"tid\":1,\"ts\":3.0,\"dur\":0.8,\"cat\":\"stretch\",\"name\":\"unit 8\",\"args\":{\"unit\":8}},
+{\"ph\":\"X\",\"pid\":0,\"tid\":0,\"ts\":1.1,\"dur\":0.6,\"cat\":\"event\",\"name\":\"step\",\"args\":{\"unit\":7,\"code\":\"ok\"}},
+{\"ph\":\"X\",\"pid\":0,\"tid\":0,\"ts\":2.1,\"dur\":0.6,\"cat\":\"event\",\"name\":\"put\",\"args\":{\"unit\":8}},
+{\"ph\":\"X\",\"pid\":0,\"tid\":1,\"ts\":3.1,\"dur\":0.6,\"cat\":\"event\",\"name\":\"take\",\"args\":{\"unit\":8}},
 {\"ph\":\"s\",\"pid\":0,\"tid\":0,\"ts\":1.4,\"bp\":\"e\",\"cat\":\"pool\",\"name\":\"unit 8\",\"id\":\"200\"},
 {\"ph\":\"t\",\"pid\":0,\"tid\":0,\"ts\":2.4,\"bp\":\"e\",\"cat\":\"pool\",\"name\":\"unit 8\",\"id\":\"200\"},
 {\"ph\":\"f\",\"pid\":0,\"tid\":1,\"ts\":3.4,\"bp\":\"e\",\"cat\":\"pool\",\"name\":\"unit 8\",\"id\":\"200\"}
@@ -77,14 +77,14 @@ const NAMED: &str = "{\"traceEvents\":[
 {\"ph\":\"M\",\"pid\":0,\"name\":\"process_name\",\"args\":{\"name\":\"abtrun\"}},
 {\"ph\":\"M\",\"pid\":0,\"tid\":0,\"name\":\"thread_name\",\"args\":{\"name\":\"stream 0\"}},
 {\"ph\":\"M\",\"pid\":0,\"tid\":0,\"name\":\"thread_sort_index\",\"args\":{\"sort_index\":0}},
-{\"ph\":\"X\",\"pid\":0,\"tid\":0,\"ts\":1.0,\"dur\":3.8,\"cat\":\"stretch\",\"name\":\"unit 0\"},
-{\"ph\":\"X\",\"pid\":0,\"tid\":0,\"ts\":5.0,\"dur\":0.8,\"cat\":\"stretch\",\"name\":\"unit 1\"},
-{\"ph\":\"X\",\"pid\":0,\"tid\":0,\"ts\":1.1,\"dur\":0.6,\"cat\":\"event\",\"name\":\"look\"},
-{\"ph\":\"X\",\"pid\":0,\"tid\":0,\"ts\":2.1,\"dur\":0.6,\"cat\":\"event\",\"name\":\"step\",\"args\":{\"operation\":\"say <\\\"\\\\&'>\"}},
-{\"ph\":\"X\",\"pid\":0,\"tid\":0,\"ts\":3.1,\"dur\":0.6,\"cat\":\"event\",\"name\":\"call\",\"args\":{\"operation\":\"call 0\"}},
+{\"ph\":\"X\",\"pid\":0,\"tid\":0,\"ts\":1.0,\"dur\":3.8,\"cat\":\"stretch\",\"name\":\"unit 0\",\"args\":{\"unit\":0}},
+{\"ph\":\"X\",\"pid\":0,\"tid\":0,\"ts\":5.0,\"dur\":0.8,\"cat\":\"stretch\",\"name\":\"unit 1\",\"args\":{\"unit\":1}},
+{\"ph\":\"X\",\"pid\":0,\"tid\":0,\"ts\":1.1,\"dur\":0.6,\"cat\":\"event\",\"name\":\"look\",\"args\":{\"unit\":0}},
+{\"ph\":\"X\",\"pid\":0,\"tid\":0,\"ts\":2.1,\"dur\":0.6,\"cat\":\"event\",\"name\":\"step\",\"args\":{\"unit\":0,\"operation\":\"say <\\\"\\\\&'>\",\"code\":\"ok\"}},
+{\"ph\":\"X\",\"pid\":0,\"tid\":0,\"ts\":3.1,\"dur\":0.6,\"cat\":\"event\",\"name\":\"call\",\"args\":{\"unit\":0,\"operation\":\"call 0\",\"value\":\"7\"}},
 {\"ph\":\"i\",\"pid\":0,\"tid\":0,\"ts\":3.4,\"s\":\"t\",\"name\":\"call, unit 0, returned 7\"},
-{\"ph\":\"X\",\"pid\":0,\"tid\":0,\"ts\":4.1,\"dur\":0.6,\"cat\":\"event\",\"name\":\"step\"},
-{\"ph\":\"X\",\"pid\":0,\"tid\":0,\"ts\":5.1,\"dur\":0.6,\"cat\":\"event\",\"name\":\"step\"}
+{\"ph\":\"X\",\"pid\":0,\"tid\":0,\"ts\":4.1,\"dur\":0.6,\"cat\":\"event\",\"name\":\"step\",\"args\":{\"unit\":0,\"code\":\"ok\"}},
+{\"ph\":\"X\",\"pid\":0,\"tid\":0,\"ts\":5.1,\"dur\":0.6,\"cat\":\"event\",\"name\":\"step\",\"args\":{\"unit\":1,\"code\":\"ok\"}}
 ]}
 ";
 
@@ -157,14 +157,63 @@ static ROWS: [Row; 30] = [
         "abtview draws the ",
         "abtview: cannot write\n",
     ),
-    ("--version", "", NEVER, 0, "abtview 1\n", ""),
-    ("--help,f", "", NEVER, 2, "", "abtview: bad command line\n"),
+    (
+        "--version",
+        "",
+        NEVER,
+        0,
+        "abtview 1, proved by the logic dac8208d650f15bf\n",
+        "",
+    ),
+    (
+        "--help,f",
+        "",
+        NEVER,
+        2,
+        "",
+        "abtview: bad command line\nusage: abtview svg|trace JOURNAL [WORKLOAD]\n",
+    ),
     // words that say nothing
-    ("svg", "", NEVER, 2, "", "abtview: bad command line\n"),
-    ("svg,f,w,w", "", NEVER, 2, "", "abtview: bad command line\n"),
-    ("svg,f,", "", NEVER, 2, "", "abtview: bad command line\n"),
-    ("svg,-,-", "", NEVER, 2, "", "abtview: bad command line\n"),
-    ("draw,f", "", NEVER, 2, "", "abtview: bad command line\n"),
+    (
+        "svg",
+        "",
+        NEVER,
+        2,
+        "",
+        "abtview: bad command line\nusage: abtview svg|trace JOURNAL [WORKLOAD]\n",
+    ),
+    (
+        "svg,f,w,w",
+        "",
+        NEVER,
+        2,
+        "",
+        "abtview: bad command line\nusage: abtview svg|trace JOURNAL [WORKLOAD]\n",
+    ),
+    (
+        "svg,f,",
+        "",
+        NEVER,
+        2,
+        "",
+        "abtview: bad command line\nusage: abtview svg|trace JOURNAL [WORKLOAD]\n",
+    ),
+    (
+        "svg,-,-",
+        "",
+        NEVER,
+        2,
+        "",
+        "abtview: bad command line\nusage: abtview svg|trace JOURNAL [WORKLOAD]\n",
+    ),
+    (
+        "draw,f",
+        "",
+        NEVER,
+        2,
+        "",
+        "abtview: bad command line\nusage: abtview svg|trace JOURNAL [WORKLOAD]\n",
+    ),
     // texts that are no journal's
     ("svg,f", "\n", NEVER, 3, "", "abtview: line 1: journal\n"),
     (
@@ -227,9 +276,30 @@ static ROWS: [Row; 30] = [
         "abtview: line 2: journal\n",
     ),
     // a file that is absent, and a write that fails
-    ("svg,absent", "", NEVER, 5, "", "abtview: cannot read\n"),
-    ("svg,absent,w", "", NEVER, 5, "", "abtview: cannot read\n"),
-    ("svg,f,absent", "\n", NEVER, 5, "", "abtview: cannot read\n"),
+    (
+        "svg,absent",
+        "",
+        NEVER,
+        5,
+        "",
+        "abtview: cannot read\nabsent: absent\n",
+    ),
+    (
+        "svg,absent,w",
+        "",
+        NEVER,
+        5,
+        "",
+        "abtview: cannot read\nabsent: absent\n",
+    ),
+    (
+        "svg,f,absent",
+        "\n",
+        NEVER,
+        5,
+        "",
+        "abtview: cannot read\nabsent: absent\n",
+    ),
     (
         "trace,f",
         "",

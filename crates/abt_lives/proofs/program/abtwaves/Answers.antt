@@ -1,9 +1,11 @@
-use Rattle.std.proofs.Common.{inl, inr, map, rules, string_bytes, subst, sym}
+use Rattle.std.proofs.Common.{inl, inr, map, refl, rules, string_bytes, subst, sym}
 use Rattle.abt_run.proofs.Preparing.{as-many}
 use Rattle.abt_run.proofs.Stepping.{no-line-ends}
 use Rattle.abt_order.specs.Stored.{stored_of}
-use Rattle.abt_shell.proofs.Calls.{concluded, missing-ends, not-stopped, stopped, stopped-by}
+use Rattle.abt_shell.specs.More.{more_text}
+use Rattle.abt_shell.proofs.Calls.{adds-known, concluded, missing-ends, not-stopped, stopped, stopped-by}
 use Rattle.abt_run.specs.Given.{given}
+use Rattle.abt_lives.specs.Asked.{IsNamed}
 use Rattle.abt_lives.specs.Call.{PrintsLives, program}
 use Rattle.abt_lives.proofs.Complete.{answered, lacks-lives}
 use Rattle.abt_lives.proofs.program.abtwaves.Goals as goal
@@ -21,7 +23,8 @@ pub returns-in-Err : goal.returns-in-Err
 returns-in-Err g c =
     let (why, number, same, told) = c.stop_without_run.ensures.stopped in
     answered _ _ (as-many _ c.args.orders.now 2 c.requires.orders)
-    (stopped (program _) _ c.in-Err.stop why _ (record { why = c.in-Err.ensures.stop; journal = c.stop_without_run.ensures.journal }) (record { why = tt; journal = c.stop_without_run.ensures.journal }) number (search rules) told same)
+    (stopped (program _) _ c.in-Err.stop why (more_text c.more_of-more.result) _ (record { why = c.in-Err.ensures.stop; journal = c.stop_without_run.ensures.journal }) (record { why = tt; journal = c.stop_without_run.ensures.journal })
+    (adds-known _ _ (IsNamed (map string_bytes c.args.words.now)) _ c.fault.result c.in-Err.stop _ refl c.in-Err.ensures.named c.fault.ensures c.more_of-more.ensures) refl number (search rules) told)
     (λ run gone. elim (c.in-Err.ensures.absent run gone) [
       | inl read ↦ missing-ends _ c.in-Err.stop why (inl (stopped-by _ _ read)) number same
       | inr refused ↦ missing-ends _ c.in-Err.stop why (inr (stopped-by _ _ refused)) number same

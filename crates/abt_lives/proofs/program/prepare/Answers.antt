@@ -1,9 +1,10 @@
 use Rattle.std.proofs.Common.{◌∙◌, ap, inl, map, string_bytes, subst, sym}
 use Rattle.std.specs.Prelude.{IsErrAnd}
 use Rattle.abt_words.specs.declared.lives.LivesWords.{LivesWords}
+use Rattle.abt_shell.proofs.Calls.{if-refused, if-unread}
 use Rattle.abt_run.specs.Steps.{ExceedsKnown}
 use Rattle.abt_lives.specs.Asked.{LacksLives}
-use Rattle.abt_lives.proofs.Naming.{run-or-about, said-as, same-asked}
+use Rattle.abt_lives.proofs.Naming.{named, run-or-about, said-as, same-asked}
 use Rattle.abt_lives.proofs.program.prepare.Goals as goal
 
 pub returns-in-Some-clause-done : goal.returns-in-Some-clause-done
@@ -41,3 +42,11 @@ returns-in-Ok-clause-exceeds g c = λ run known.
     let same = same-asked (map string_bytes c.args.words.now) run (record { asked = c.in-Ok.asked; says = c.in-Ok.ensures.said }) in
     c.prepare_files.ensures.exceeds (subst (λ file. ExceedsKnown (g.F.Files.file c.args.files.now file) c.in-Ok.asked.steps) (sym c.as_str.ensures)
     (subst (λ (w : LivesWords). ExceedsKnown (g.F.Files.file c.args.files.now w.workload) w.steps) same known))
+
+pub returns-in-Some-clause-named : goal.returns-in-Some-clause-named
+returns-in-Some-clause-named g c = if-refused c.prepare_about.result _ c.prepare_about.ensures.stop
+
+pub returns-in-Ok-clause-named : goal.returns-in-Ok-clause-named
+returns-in-Ok-clause-named g c =
+    if-unread c.prepare_files.result _ (named (map string_bytes c.args.words.now) _ _ (said-as (map string_bytes c.args.words.now) c.in-Ok.asked _ _ c.as_str.ensures c.as_str-in-Ok.ensures c.in-Ok.ensures.said)
+    c.prepare_files.ensures.begun)

@@ -1,5 +1,7 @@
-use Rattle.std.proofs.Common.{inl, rules}
-use Rattle.abt_shell.proofs.Calls.{concluded, missing-ends, not-stopped, stopped, stopped-by}
+use Rattle.std.proofs.Common.{inl, map, refl, rules, string_bytes}
+use Rattle.abt_shell.specs.More.{more_text}
+use Rattle.abt_shell.proofs.Calls.{adds-known, concluded, missing-ends, not-stopped, stopped, stopped-by}
+use Rattle.abt_view.specs.Call.{IsNamed}
 use Rattle.abt_view.proofs.Complete.{answered}
 use Rattle.abt_view.proofs.Requests.{lacks-journal}
 use Rattle.abt_view.proofs.program.abtview.Goals as goal
@@ -10,7 +12,7 @@ returns-in-Ok g c = answered _ _ (concluded _ _ c.in-Ok.it.conclusion c.in-Ok.it
     (λ fault. absurd (not-stopped _ _ (c.in-Ok.ensures.faulty fault)))
 
 pub returns-in-Err : goal.returns-in-Err
-returns-in-Err g c = answered _ _ (stopped _ _ c.in-Err.stop c.stop_by.result _ c.in-Err.ensures.stop tt c.number-in-Err.ensures (search rules) c.stop_by.ensures.told c.stop_by.ensures.same)
+returns-in-Err g c = answered _ _ (stopped _ _ c.in-Err.stop c.stop_by.result (more_text c.more_of-more.result) _ c.in-Err.ensures.stop tt (adds-known _ _ (IsNamed (map string_bytes c.args.words.now)) _ c.fault.result c.in-Err.stop _ refl c.in-Err.ensures.named c.fault.ensures c.more_of-more.ensures) refl c.number-in-Err.ensures (search rules) c.stop_by.ensures.told)
     (λ q file asks names gone. missing-ends _ c.in-Err.stop c.stop_by.result (inl (stopped-by _ _ (c.in-Err.ensures.missing q file asks names gone))) c.number-in-Err.ensures c.stop_by.ensures.same)
     (λ q names asks tells gone. missing-ends _ c.in-Err.stop c.stop_by.result (lacks-journal _ _ names _ c.in-Err.stop tells (c.in-Err.ensures.absent q asks gone)) c.number-in-Err.ensures c.stop_by.ensures.same)
     (λ fault. missing-ends _ c.in-Err.stop c.stop_by.result (inl (stopped-by _ _ (c.in-Err.ensures.faulty fault))) c.number-in-Err.ensures c.stop_by.ensures.same)

@@ -1,5 +1,5 @@
 use Rattle.std.proofs.Common.{sym, subst}
-use Rattle.abt_shell.proofs.Calls.{if-err, if-ok}
+use Rattle.abt_shell.proofs.Calls.{if-err, if-ok, if-refused}
 use Rattle.abt_view.specs.Call.{StopsView}
 use Rattle.abt_view.proofs.Concluding.{about-prints, viewed}
 use Rattle.abt_view.proofs.Requests.{asks-none}
@@ -20,3 +20,6 @@ returns-in-Some-clause-absent g c = λ q asks gone. absurd (asks-none _ c.in-Som
 
 pub returns-in-None-clause-done : goal.returns-in-None-clause-done
 returns-in-None-clause-done g c = if-ok c.prepare_asked.result _ _ (λ it view. viewed _ _ it.conclusion it.text.items view) c.prepare_asked.ensures.done
+
+pub returns-in-Some-clause-named : goal.returns-in-Some-clause-named
+returns-in-Some-clause-named g c = if-refused c.prepare_topic.result _ c.prepare_topic.ensures.stop

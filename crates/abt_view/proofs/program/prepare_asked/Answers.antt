@@ -1,7 +1,8 @@
 use Rattle.std.proofs.Common.{arith, map, refl, string_bytes, None, Some}
-use Rattle.abt_shell.proofs.Calls.{if-err, if-ok}
+use Rattle.abt_shell.proofs.Calls.{if-err, if-ok, if-unread}
 use Rattle.abt_view.specs.Views.{Asks, request}
 use Rattle.abt_view.proofs.Preparing.{no-journal-stops}
+use Rattle.abt_view.proofs.Requests.{names-both, names-journal}
 use Rattle.abt_view.proofs.program.prepare_asked.Goals as goal
 
 pub returns-in-Some-default-default-None-clause-done : goal.returns-in-Some-default-default-None-clause-done
@@ -38,3 +39,15 @@ returns-in-None-clause-missing g c = λ q file asks names gone. absurd (c.in-Non
 
 pub returns-in-None-clause-absent : goal.returns-in-None-clause-absent
 returns-in-None-clause-absent g c = λ q asks gone. absurd (c.in-None.ensures q asks)
+
+pub returns-in-Some-default-default-None-clause-named : goal.returns-in-Some-default-default-None-clause-named
+returns-in-Some-default-default-None-clause-named g c =
+    let asks : Asks (map string_bytes c.args.words.now) (request c.in-Some-default-default-None.view c.in-Some-default-default-None.journal.now None) =
+    rw c.in-Some-default-default-None.field-0-2-is at c.in-Some-default-default-None.ensures in
+    if-unread c.prepare_view.result _ (names-journal _ (request c.in-Some-default-default-None.view c.in-Some-default-default-None.journal.now None) _ asks c.prepare_view.ensures.begun)
+
+pub returns-in-Some-default-default-Some-clause-named : goal.returns-in-Some-default-default-Some-clause-named
+returns-in-Some-default-default-Some-clause-named g c =
+    let asks : Asks (map string_bytes c.args.words.now) (request c.in-Some-default-default-Some.view c.in-Some-default-default-Some.journal.now (Some c.in-Some-default-default-Some.workload.now)) =
+    rw c.in-Some-default-default-Some.field-0-2-is at c.in-Some-default-default-Some.ensures in
+    if-unread c.prepare_named.result _ (names-both _ (request c.in-Some-default-default-Some.view c.in-Some-default-default-Some.journal.now (Some c.in-Some-default-default-Some.workload.now)) _ _ asks refl c.prepare_named.ensures.begun)

@@ -4,6 +4,6 @@ use Rattle.abt_view.proofs.traces.push_slice.Goals as goal
 
 pub returns : goal.returns
 returns c =
-    if-ok c.push_around-4.result _ _
+    if-ok c.push_unit_end.result _ _
     (λ _ last. four _ _ _ _ _ _ _ _ _ (rw c.from.ensures at c.in_ok-push_around.ensures) c.in_ok-push_around-2.ensures
-    (rw c.saturating_sub-length.ensures at c.in_ok-push_around-3.ensures) (rw c.from-2.ensures at last)) c.push_around-4.ensures
+    (rw c.saturating_sub-length.ensures at c.in_ok-push_around-3.ensures) last) c.push_unit_end.ensures

@@ -1,5 +1,5 @@
 use Rattle.abt_view.proofs.Joining.{three}
-use Rattle.abt_view.proofs.named.push_args_of.Goals as goal
+use Rattle.abt_view.proofs.args.push_operation.Goals as goal
 
 pub returns-in_ok-extend_from_slice-in-Some-2 : goal.returns-in_ok-extend_from_slice-in-Some-2
 returns-in_ok-extend_from_slice-in-Some-2 c =
