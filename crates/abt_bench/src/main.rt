@@ -5,13 +5,11 @@
 mod booth;
 mod chains;
 mod faults;
-mod streams;
-mod texts;
 mod units;
 
 use std::{env, io};
 
-const USAGE: &str = "usage: abt_bench small|booth|chains|streams|texts";
+const USAGE: &str = "usage: abt_bench small|booth|chains";
 
 // Words that are no subject are an error.
 fn refuse<R: Eprint>(rt: &R) -> io::Result<()> {
@@ -27,14 +25,10 @@ fn main(rt: HostRuntime) -> io::Result<()> {
     match word.as_str() {
         "small" => {
             booth::small(&rt, rt.alloc())?;
-            chains::small(&rt, rt.alloc())?;
-            streams::small(&rt, rt.alloc())?;
-            texts::small(&rt, rt.alloc())
+            chains::small(&rt, rt.alloc())
         }
         "booth" => booth::times(&rt, rt.alloc()),
         "chains" => chains::times(&rt, rt.alloc()),
-        "streams" => streams::times(&rt, rt.alloc()),
-        "texts" => texts::times(&rt, rt.alloc()),
         _ => refuse(&rt),
     }
 }
