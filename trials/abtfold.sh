@@ -1,5 +1,6 @@
 # The program abtfold, as docs/FORMAT.md has it: each status with both outputs, and all ways out.
-words_are_bad='abtfold: bad command line'
+words_are_bad='abtfold: bad command line
+usage: abtfold W N'
 cannot_write='abtfold: cannot write'
 
 # Folds, each with its words and what it prints.
@@ -45,7 +46,7 @@ try_bad_words() {
     call "$program" 3 $'100\n'
     came "a line feed after a number" 2 "" "$words_are_bad"
     call "$program" 3 $'1\xff'
-    came "a word that is not UTF-8" 2 "" "$words_are_bad"
+    came "a word that is not UTF-8" 2 "" "abtfold: bad command line"
     call "$program" ٣ 100
     came "digits that are not ASCII" 2 "" "$words_are_bad"
 }
@@ -55,7 +56,7 @@ try_itself() {
     call "$program" --help
     came "its words" 0 "$(printf 'abtfold %s\n' 'W N' --help --version)" ""
     call "$program" --version
-    came "its version" 0 "abtfold 1" ""
+    came "its version" 0 "$(version_of abtfold)" ""
 }
 
 # Each write fails in turn, and writes move few bytes.

@@ -4,7 +4,12 @@ hi=$data/hi.abt
 hi_report='unit 0 done: hi
 tally units 1 unborn 0 pool 0 stream 0 blocked 0 done 1 asked 0 access 0 steps 1
 finished'
-words_are_bad='abtrun: bad command line'
+# words_are_bad NAME: what is said of bad words whose first is NAME: how the command of that name is called, or all are.
+words_are_bad() {
+    echo 'abtrun: bad command line'
+    printf 'usage: '
+    "$program" --help | grep -- "^abtrun $1\( \|\$\)" || "$program" --help
+}
 cannot_read='abtrun: cannot read'
 cannot_write='abtrun: cannot write'
 
@@ -237,16 +242,16 @@ try_bad_words() {
         "run $hi --schedule" "run $hi --schedule=" "run - --schedule -" "run $hi --schedule j --schedule j" "run $hi --schedule j --journal" \
         "run $hi --schedule j --steps 5" "run $hi --schedule j --seed 1" "run $hi --schedule j --in-turn" "check $hi j --end --end" "check $hi j --end=1" "-- run $hi" "$hi"; do
         call "$program" $words
-        came "the words '$words'" 2 "" "$words_are_bad"
+        came "the words '$words'" 2 "" "$(words_are_bad "${words%% *}")"
     done
     call "$program" ''
-    came "an empty word" 2 "" "$words_are_bad"
+    came "an empty word" 2 "" "$(words_are_bad "")"
     call "$program" run ''
-    came "an empty FILE" 2 "" "$words_are_bad"
+    came "an empty FILE" 2 "" "$(words_are_bad run)"
     call "$program" run $'f\xff'
-    came "a word that is not UTF-8" 2 "" "$words_are_bad"
+    came "a word that is not UTF-8" 2 "" "abtrun: bad command line"
     call "$program" "run $hi"
-    came "two words in one" 2 "" "$words_are_bad"
+    came "two words in one" 2 "" "$(words_are_bad "run $hi")"
     call "$program" run "$hi" --steps 100000
     came "as many steps as there may be" 0 "$hi_report" ""
     call "$program" run --steps=00001 "$hi"
@@ -255,7 +260,7 @@ try_bad_words() {
     call "$program" run "$room/third.abt" --steps 16777216
     came "as many steps as there may be by format 3" 0 "$hi_report" ""
     call "$program" run "$room/third.abt" --steps 16777217
-    came "more than that" 2 "" "$words_are_bad"
+    came "more than that" 2 "" "$(words_are_bad run)"
 }
 
 # What the program says of itself, and runs in rotation: each is the same, and a run.
@@ -265,7 +270,7 @@ try_words() {
     holds "help: the status" [ "$status $(wc -c <"$room/err")" = "0 0" ]
     holds "help: the commands" [ "$(sed 's/^abtrun //; s/ .*//' "$room/out" | xargs)" = "run run self check flow explore --help --version" ]
     call "$program" --version
-    came "the version" 0 "abtrun 1" ""
+    came "the version" 0 "$(version_of abtrun)" ""
     call "$program" run "$data/stuck.abt" --why
     { cat "$data/stuck.out" && printf '%s\n' 'unit 0 at mutex 1, owned by unit 1, which is blocked' \
         'unit 1 at mutex 0, owned by unit 0, which is blocked' 'cycle 0 1'; } >"$room/why.out"
@@ -374,9 +379,9 @@ try_schedules() {
     call "$program" run "$room/abreast.abt" --schedule "$room/part.journal"
     came "a schedule that is no journal" 3 "" "abtrun: line 1: journal"
     call "$program" run "$room/abreast.abt" --schedule "$room/no.journal"
-    came "a schedule that is not there" 5 "" "$cannot_read"
+    came "a schedule that is not there" 5 "" "$(blamed "$room/no.journal" absent)"
     call "$program" run "$room/no.abt" --schedule "$room/part.journal"
-    came "a workload that is not there" 5 "" "$cannot_read"
+    came "a workload that is not there" 5 "" "$(blamed "$room/no.abt" absent)"
 }
 
 # refused FAULT LINE: the text on standard input is refused so.
@@ -483,7 +488,7 @@ try_few_bytes() {
         meddled TRIAL_READ=$most TRIAL_WRITE=$most "$program" run - <"$data/stuck.abt"
         came "reads and writes of $most bytes on standard input" 1 "@$data/stuck.out" ""
         meddled TRIAL_WRITE=$most "$program" walk
-        came "writes of $most bytes of a message" 2 "" "$words_are_bad"
+        came "writes of $most bytes of a message" 2 "" "$(words_are_bad walk)"
     done
 }
 
@@ -525,7 +530,7 @@ try_reading() {
         cp "$hi" "$room/text.abt"
         chmod 000 "$room/text.abt"
         call "$program" run "$room/text.abt"
-        came "a file that must not be read" 5 "" "$cannot_read"
+        came "a file that must not be read" 5 "" "$(blamed "$room/text.abt" "not allowed")"
         chmod 644 "$room/text.abt"
     else
         skip "a file that must not be read" "root can read every file"
@@ -561,11 +566,11 @@ try_checks() {
     call "$program" check "$hi" "$room/zero.journal"
     came "a zero before a number" 3 "" "abtrun: line 1: journal"
     call "$program" check "$room/absent" "$journal"
-    came "a workload that is absent" 5 "" "abtrun: cannot read"
+    came "a workload that is absent" 5 "" "$(blamed "$room/absent" absent)"
     call "$program" check "$hi" "$room/absent"
-    came "a journal that is absent" 5 "" "abtrun: cannot read"
+    came "a journal that is absent" 5 "" "$(blamed "$room/absent" absent)"
     call "$program" check - -
-    came "standard input twice" 2 "" "abtrun: bad command line"
+    came "standard input twice" 2 "" "$(words_are_bad check)"
     call "$program" flow "$hi"
     came "a flow" 0 $'unit 0: hi\nfinishes' ""
     "$program" run "$data/flow.abt" >"$room/text"
@@ -574,7 +579,7 @@ try_checks() {
     call "$program" flow "$data/streams.abt"
     came "a workload that is not confluent" 1 "not confluent" ""
     call "$program" flow "$hi" "$hi"
-    came "a flow of two files" 2 "" "abtrun: bad command line"
+    came "a flow of two files" 2 "" "$(words_are_bad flow)"
 }
 
 # streams_apart N THINGS..: the lines of a workload up to its units, one for each of N streams, which has a pool of its own, with objects.
@@ -597,6 +602,21 @@ unit() {
     printf '%s\n' "$@"
 }
 
+# rows_and_outcomes: of each report on standard input one line with its rows and its outcome.
+rows_and_outcomes() {
+    awk '/^unit / { rows = rows $0 "|" } /^(finished|stuck|budget)/ { print rows $0; rows = "" }'
+}
+
+# seeds_end_so TITLE FILE N: each of N runs by seeds ends as one of the ends, which `explore` has just printed.
+seeds_end_so() {
+    local title=$1 file=$2 n=$3 seed
+    grep -v '^end ' "$room/out" | rows_and_outcomes | sort -u >"$room/listed"
+    for ((seed = 1; seed <= n; seed++)); do "$program" run "$file" --seed "$seed"; done | rows_and_outcomes >"$room/seeded"
+    holds "$title: runs by seeds" [ "$(wc -l <"$room/seeded")" = "$n" ]
+    sort -u "$room/seeded" | comm -13 "$room/listed" - >"$room/others"
+    holds "$title: runs by seeds that end otherwise" [ ! -s "$room/others" ]
+}
+
 # has_ends TITLE STATUS END..: the workload on standard input has these ends, each an outcome and what the last unit's line says; and each
 # end's journal is a run with the end's report.
 has_ends() {
@@ -605,6 +625,7 @@ has_ends() {
     cat >"$room/ends.abt"
     call "$program" explore "$room/ends.abt"
     holds "$title: the status" [ "$status" = "$wanted" ]
+    seeds_end_so "$title" "$room/ends.abt" 100
     awk '/^end / { outcome = $3 } /^unit / { line = $0; sub(/^unit [0-9]+ /, "", line) } /^tally / { print outcome ", " line }' "$room/out" | sort >"$room/ends"
     printf '%s\n' "$@" | sort >"$room/wanted"
     holds "$title: the ends" cmp -s "$room/ends" "$room/wanted"
@@ -682,6 +703,7 @@ try_ends() {
         holds "the ends of ${file##*/}" [ "$status" = "$wanted" ]
         [ "$wanted" -lt 4 ] || continue
         # Each run ends as one of them.
+        seeds_end_so "${file##*/}" "$file" 300
         grep -v '^states\|^end \|^tally' "$room/out" >"$room/all"
         for turn in 1 2 3 4 5; do
             "$program" run "$file" | grep '^unit ' >"$room/run.rows"
@@ -696,9 +718,9 @@ try_ends() {
     call "$program" explore "$room/ends.abt"
     came "states without end" 8 "too many states" ""
     call "$program" explore "$room/absent"
-    came "ends of a file that is absent" 5 "" "$cannot_read"
+    came "ends of a file that is absent" 5 "" "$(blamed "$room/absent" absent)"
     call "$program" explore "$hi" --end 0
-    came "end 0" 2 "" "$words_are_bad"
+    came "end 0" 2 "" "$(words_are_bad explore)"
     call "$program" explore "$data/hi.abt" --states 1
     came "too few states" 8 "too many states" ""
 }

@@ -1,7 +1,8 @@
 # The program abtview, as docs/VIEW.md has it: each status with both outputs, and all ways in and out.
 journal=$root/crates/abtview/data/hi.journal
 picture=$root/crates/abtview/stdout
-words_are_bad='abtview: bad command line'
+words_are_bad='abtview: bad command line
+usage: abtview svg|trace JOURNAL [WORKLOAD]'
 cannot_read='abtview: cannot read'
 cannot_write='abtview: cannot write'
 too_large="<svg xmlns='http://www.w3.org/2000/svg' width='720' height='40'><text x='10' y='25'>a picture has at most 20,000 events and no stamp above 20,000: use abtview trace</text></svg>"
@@ -14,9 +15,9 @@ write_refused() {
 {"ph":"M","pid":0,"name":"process_name","args":{"name":"abtrun"}},
 {"ph":"M","pid":0,"tid":0,"name":"thread_name","args":{"name":"stream 0"}},
 {"ph":"M","pid":0,"tid":0,"name":"thread_sort_index","args":{"sort_index":0}},
-{"ph":"X","pid":0,"tid":0,"ts":1.0,"dur":1.8,"cat":"stretch","name":"unit 7"},
-{"ph":"X","pid":0,"tid":0,"ts":1.1,"dur":0.6,"cat":"event","name":"take"},
-{"ph":"X","pid":0,"tid":0,"ts":2.1,"dur":0.6,"cat":"event","name":"refused"},
+{"ph":"X","pid":0,"tid":0,"ts":1.0,"dur":1.8,"cat":"stretch","name":"unit 7","args":{"unit":7}},
+{"ph":"X","pid":0,"tid":0,"ts":1.1,"dur":0.6,"cat":"event","name":"take","args":{"unit":7}},
+{"ph":"X","pid":0,"tid":0,"ts":2.1,"dur":0.6,"cat":"event","name":"refused","args":{"unit":7,"code":"absent"}},
 {"ph":"i","pid":0,"tid":0,"ts":2.4,"s":"t","name":"refused, unit 7"}
 ]}
 JSON
@@ -86,15 +87,15 @@ write_named() {
 {"ph":"M","pid":0,"name":"process_name","args":{"name":"abtrun"}},
 {"ph":"M","pid":0,"tid":0,"name":"thread_name","args":{"name":"stream 0"}},
 {"ph":"M","pid":0,"tid":0,"name":"thread_sort_index","args":{"sort_index":0}},
-{"ph":"X","pid":0,"tid":0,"ts":1.0,"dur":4.8,"cat":"stretch","name":"unit 0"},
-{"ph":"X","pid":0,"tid":0,"ts":6.0,"dur":0.8,"cat":"stretch","name":"unit 1"},
-{"ph":"X","pid":0,"tid":0,"ts":1.1,"dur":0.6,"cat":"event","name":"step","args":{"operation":"say <&>\"\\"}},
-{"ph":"X","pid":0,"tid":0,"ts":2.1,"dur":0.6,"cat":"event","name":"step","args":{"operation":"say 'ß"}},
+{"ph":"X","pid":0,"tid":0,"ts":1.0,"dur":4.8,"cat":"stretch","name":"unit 0","args":{"unit":0}},
+{"ph":"X","pid":0,"tid":0,"ts":6.0,"dur":0.8,"cat":"stretch","name":"unit 1","args":{"unit":1}},
+{"ph":"X","pid":0,"tid":0,"ts":1.1,"dur":0.6,"cat":"event","name":"step","args":{"unit":0,"operation":"say <&>\"\\","code":"ok"}},
+{"ph":"X","pid":0,"tid":0,"ts":2.1,"dur":0.6,"cat":"event","name":"step","args":{"unit":0,"operation":"say 'ß","code":"ok"}},
 JSON
-    printf '%s\n' '{"ph":"X","pid":0,"tid":0,"ts":3.1,"dur":0.6,"cat":"event","name":"step","args":{"operation":"say '$'\xef\xbf\xbf''"}},' \
-        '{"ph":"X","pid":0,"tid":0,"ts":4.1,"dur":0.6,"cat":"event","name":"step","args":{"operation":"yield"}},' \
-        '{"ph":"X","pid":0,"tid":0,"ts":5.1,"dur":0.6,"cat":"event","name":"step"},' \
-        '{"ph":"X","pid":0,"tid":0,"ts":6.1,"dur":0.6,"cat":"event","name":"call"},' \
+    printf '%s\n' '{"ph":"X","pid":0,"tid":0,"ts":3.1,"dur":0.6,"cat":"event","name":"step","args":{"unit":0,"operation":"say '$'\xef\xbf\xbf''","code":"ok"}},' \
+        '{"ph":"X","pid":0,"tid":0,"ts":4.1,"dur":0.6,"cat":"event","name":"step","args":{"unit":0,"operation":"yield","code":"ok"}},' \
+        '{"ph":"X","pid":0,"tid":0,"ts":5.1,"dur":0.6,"cat":"event","name":"step","args":{"unit":0,"code":"ok"}},' \
+        '{"ph":"X","pid":0,"tid":0,"ts":6.1,"dur":0.6,"cat":"event","name":"call","args":{"unit":1,"value":"7"}},' \
         '{"ph":"i","pid":0,"tid":0,"ts":6.4,"s":"t","name":"call, unit 1, returned 7"}' ']}' >>"$room/named.json"
     printf '%s\n' '1 0 step 0 0 ok  say &lt;&amp;&gt;&quot;\' '2 0 step 0 1 ok  say &#39;ß' $'3 0 step 0 2 ok  say \xef\xbf\xbd' \
         '4 0 step 0 3 ok  yield' '5 0 step 0 4 ok' >"$room/named.lines"
@@ -105,7 +106,7 @@ try_named() {
     local hi=$root/crates/abt_examples/data/hi.abt view
     call "$program" svg "$journal" "$hi"
     holds "the svg of hi names the operation" grep -qx '3 0 step 0 0 ok  say hi' "$room/out"
-    sed 's/  say hi$//' "$room/out" >"$room/text"
+    sed "s/  say hi\$//; s|<text class='op'[^>]*>say hi</text>||" "$room/out" >"$room/text"
     holds "and is otherwise the svg without a workload" cmp -s "$room/text" "$picture"
     call "$program" svg - "$hi" <"$journal"
     holds "a journal on standard input" grep -qx '3 0 step 0 0 ok  say hi' "$room/out"
@@ -132,11 +133,11 @@ try_named() {
         call "$program" "$view" "$hi" "$hi"
         came "$view: a workload is no journal" 3 "" "abtview: line 1: journal"
         call "$program" "$view" "$room/absent" "$hi"
-        came "$view: an absent journal" 5 "" "$cannot_read"
+        came "$view: an absent journal" 5 "" "$(blamed "$room/absent" absent)"
         call "$program" "$view" "$journal" "$room/absent"
-        came "$view: an absent workload" 5 "" "$cannot_read"
+        came "$view: an absent workload" 5 "" "$(blamed "$room/absent" absent)"
         call "$program" "$view" "$journal" "$room"
-        came "$view: a folder as the workload" 5 "" "$cannot_read"
+        came "$view: a folder as the workload" 5 "" "$(blamed "$room" "a folder")"
         call "$program" "$view" "$journal" ''
         came "$view: an empty name of a workload" 2 "" "$words_are_bad"
         call "$program" "$view" - - <"$journal"
@@ -187,6 +188,79 @@ for points in arrows.values():
 PYTHON
 }
 
+# has_args JOURNAL WORKLOAD TRACE: whether each slice of the trace has the arguments that the two texts say.
+has_args() {
+    python3 - "$@" 2>/dev/null <<'PYTHON'
+import json, sys
+
+journal, workload, trace = (open(name).read() for name in sys.argv[1:])
+operations, kinds, open_units = {}, {}, []
+sections = "abt streams keys pool sched stream units end".split()
+for words in map(str.split, workload.splitlines()):
+    if not words or words[0].startswith("#") or words[0] in sections:
+        continue
+    if words[0] == "object":
+        kinds[words[1]] = words[2].replace("cond", "condition")
+    elif words[0] in ("unit", "many"):
+        count = int(words[2]) if words[0] == "many" else 1
+        open_units = range(int(words[1]), int(words[1]) + count)
+    else:
+        times, words = (int(words[1]), words[2:]) if words[0] == "repeat" else (1, words)
+        for unit in open_units:
+            operations.setdefault(unit, []).extend(times * [words])
+local = "set add say print kset kget calc call yield yieldto suspend exit resume create join cancel migrate migrateto migratable revive".split()
+
+
+def args(kind, *words):
+    if kind == "miss":
+        return {}
+    unit = int(words[1 if kind == "take" else 0])
+    found = {"unit": unit}
+    if kind in ("step", "call"):
+        words_of = operations[unit][int(words[1])]
+        found["operation"] = " ".join(words_of)
+        if words_of[0] not in local:
+            found["object"] = kinds[words_of[1]] + " " + words_of[1]
+        found["code" if kind == "step" else "value"] = words[2]
+    return found
+
+
+items = json.loads(trace)["traceEvents"]
+assert [item.get("args", {}) for item in items if item.get("cat") == "event"] == [
+    args(*line.split()[2:]) for line in journal.splitlines()
+]
+for item in items:
+    if item.get("cat") in ("stretch", "frame") and item["ph"] != "E":
+        assert item["args"] == {"unit": int(item["name"].split()[-1])}
+PYTHON
+}
+
+# Whether each bar of an svg in one band has the operations that have room, as the lines of its title say.
+has_room_for_texts() {
+    python3 - "$1" 2>/dev/null <<'PYTHON'
+import sys, xml.etree.ElementTree as tree
+
+svg = "{http://www.w3.org/2000/svg}"
+bars = 0
+for bar in tree.parse(sys.argv[1]).iter(svg + "g"):
+    title = bar.find(svg + "title")
+    if title is None or not bar.get("transform") or not title.text[0].isdigit():
+        continue
+    bars += 1
+    number, *found = bar.findall(svg + "text")
+    lines = [line.split("  ", 1) for line in title.text.splitlines()]
+    since, until = (int(lines[i][0].split()[0]) for i in (0, -1))
+    right, wanted = since + len(number.text), []
+    for words, *operation in lines:
+        stamp = int(words.split()[0])
+        if operation and stamp >= right and stamp + len(operation[0].encode()) // 2 <= until:
+            right = stamp + len(operation[0].encode()) // 2 + 1
+            wanted.append((10 * (stamp - since), operation[0]))
+    assert [(int(text.get("x")), text.text) for text in found] == wanted
+assert bars
+PYTHON
+}
+
 # What abtrun prints is drawn as in the documents, and the views are well-formed.
 try_runs() {
     local run=${program%/*}/abtrun data=$root/crates/abt_examples/data example
@@ -197,7 +271,7 @@ try_runs() {
     "$run" run "$root/crates/abt_examples/data/stacked.abt" --journal | grep '^[0-9]' >"$room/text"
     call "$program" svg "$room/text"
     came "the picture of docs/VIEW.md" 0 "@$root/docs/stacked.svg" ""
-    ! has_python || for example in stacked streams stealing; do
+    ! has_python || for example in stacked streams stealing rwlock condition eventual future barrier pipeline; do
         "$run" run "$root/crates/abt_examples/data/$example.abt" --journal | grep '^[0-9]' >"$room/text"
         call "$program" svg "$room/text"
         holds "the svg of $example is XML" is_xml "$room/out"
@@ -207,7 +281,11 @@ try_runs() {
         holds "the svg of $example with operations is XML" is_xml "$room/out"
         call "$program" trace "$room/text" "$data/$example.abt"
         holds "the trace of $example with operations is one" is_trace "$room/out"
-        holds "and each step has one" [ "$(grep -c '"operation"' "$room/out")" = "$(grep -c '^[0-9]* [0-9]* step' "$room/text")" ]
+        holds "and has the arguments of $example" has_args "$room/text" "$data/$example.abt" "$room/out"
+        call "$program" svg "$room/text" "$data/$example.abt"
+        holds "the bars of $example have the operations that have room" has_room_for_texts "$room/out"
+        call "$program" trace "$room/text" "$data/$example.abt"
+        holds "and each step and each call has one" [ "$(grep -c '"operation"' "$room/out")" = "$(grep -Ec '^[0-9]* [0-9]* (step|call)' "$room/text")" ]
     done
     "$run" run "$root/crates/abt_examples/data/stacked.abt" --journal >"$room/text"
     call "$program" svg "$room/text"
@@ -226,9 +304,9 @@ try_bad_words() {
     call "$program" "svg $journal"
     came "two words in one" 2 "" "$words_are_bad"
     call "$program" svg -- f
-    came "a journal of the name '--'" 5 "" "$cannot_read"
+    came "a journal of the name '--'" 5 "" "$(blamed f absent)"
     call "$program" svg $'f\xff'
-    came "a word that is not UTF-8" 2 "" "$words_are_bad"
+    came "a word that is not UTF-8" 2 "" "abtview: bad command line"
 }
 
 # What the program says of itself.
@@ -237,7 +315,7 @@ try_about() {
     holds "--help names both views" [ "$status $(grep -c '^  abtview \(svg\|trace\) JOURNAL \[WORKLOAD\] ' "$room/out") $(wc -c <"$room/err")" = "0 2 0" ]
     holds "--help names each status" [ "$(grep -o '[0-9] [a-z]' "$room/out" | cut -c1 | tr -d '\n')" = 0235678 ]
     call "$program" --version
-    came "--version" 0 "abtview 1" ""
+    came "--version" 0 "$(version_of abtview)" ""
 }
 
 # refused LINE: the journal on standard input is refused at this line, by both views.
@@ -295,7 +373,7 @@ try_names() {
 try_reading() {
     tries_reading svg "$journal" "@$picture"
     call "$program" svg ''
-    came "an empty name" 5 "" "$cannot_read"
+    came "an empty name" 5 "" "$(blamed "" absent)"
 }
 
 try_writing() {

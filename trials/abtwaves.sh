@@ -1,7 +1,8 @@
 # The program abtwaves, as docs/FORMAT.md has it: each status with both outputs, and all ways in and out.
 lives=$root/crates/abtwaves/data
 made=$root/crates/abtwaves/stdout
-words_are_bad='abtwaves: bad command line'
+words_are_bad='abtwaves: bad command line
+usage: abtwaves WORKLOAD LIVES [--steps V] [--journal]'
 cannot_read='abtwaves: cannot read'
 cannot_write='abtwaves: cannot write'
 
@@ -83,7 +84,7 @@ try_options() {
     call "$program" --help
     came "its words" 0 "$(printf '%s\n' 'abtwaves WORKLOAD LIVES [--steps V] [--journal]' 'abtwaves --help' 'abtwaves --version')" ""
     call "$program" --version
-    came "its version" 0 "abtwaves 1" ""
+    came "its version" 0 "$(version_of abtwaves)" ""
     cp "$lives/made.abt" "$room/--journal"
     cd "$room" || return
     call "$program" -- --journal "$lives/made.lives"
@@ -125,7 +126,7 @@ try_bad_words() {
     call "$program" "$lives/made.abt" ''
     came "an empty second word" 2 "" "$words_are_bad"
     call "$program" "$lives/made.abt" $'a\xff'
-    came "a word that is not UTF-8" 2 "" "$words_are_bad"
+    came "a word that is not UTF-8" 2 "" "abtwaves: bad command line"
 }
 
 # Lives texts that break a rule, each with its line.
@@ -197,11 +198,13 @@ try_few_bytes() {
         meddled TRIAL_WRITE=$most "$program" walk
         came "writes of $most bytes of a message" 2 "" "$words_are_bad"
     done
-    tries_failing_reads "$lives/made.abt" "$lives/made.lives" 100
+    tries_failing_reads "$lives/made.abt" "$lives/made.lives" 100 "$lives/made.abt"
     # (four reads end the workload, and two the lives)
-    for number in 4 5 6; do
+    meddled TRIAL_READ=100 TRIAL_NO_READ=4 "$program" "$lives/made.abt" "$lives/made.lives"
+    came "read 4 fails" 5 "" "$(blamed "$lives/made.abt" "cannot be read")"
+    for number in 5 6; do
         meddled TRIAL_READ=100 TRIAL_NO_READ=$number "$program" "$lives/made.abt" "$lives/made.lives"
-        came "read $number fails" 5 "" "$cannot_read"
+        came "read $number fails" 5 "" "$(blamed "$lives/made.lives" "cannot be read")"
     done
     meddled TRIAL_READ=100 TRIAL_NO_READ=7 "$program" "$lives/made.abt" "$lives/made.lives"
     came "no read fails" 0 "@$made" ""
@@ -224,11 +227,11 @@ try_names() {
 try_reading() {
     tries_reading "$lives/made.abt" "$lives/made.lives" "@$made"
     call "$program" "$room/absent" "$lives/made.lives"
-    came "a workload that is absent" 5 "" "$cannot_read"
+    came "a workload that is absent" 5 "" "$(blamed "$room/absent" absent)"
     call "$program" "$room" "$lives/made.lives"
-    came "a folder as the workload" 5 "" "$cannot_read"
+    came "a folder as the workload" 5 "" "$(blamed "$room" "a folder")"
     call "$program" - "$lives/made.lives" <&-
-    came "a workload on a closed standard input" 5 "" "$cannot_read"
+    came "a workload on a closed standard input" 5 "" "$(blamed - "cannot be read")"
 }
 
 try_writing() {

@@ -84,11 +84,11 @@ try_common() {
     call "$program" lcs "$room/short" "$room/longer"
     came "a second text that is too long" 3 "" "abtwork: line 0: limit"
     call "$program" lcs "$room/absent" "$room/short"
-    came "an absent first text" 5 "" "$cannot_read"
+    came "an absent first text" 5 "" "$(blamed "$room/absent" absent)"
     call "$program" lcs "$room/short" "$room/absent"
-    came "an absent second text" 5 "" "$cannot_read"
+    came "an absent second text" 5 "" "$(blamed "$room/absent" absent)"
     call "$program" lcs "$room/longer" "$room/absent"
-    came "a text that is too long and an absent one" 5 "" "$cannot_read"
+    came "a text that is too long and an absent one" 5 "" "$(blamed "$room/absent" absent)"
 }
 
 # in_order STREAMS: the numbers on standard input are printed in order.
@@ -207,7 +207,7 @@ try_bad_words() {
         mandelbrot 'mandelbrot 3' 'mandelbrot 0 3' 'mandelbrot 3 0' 'mandelbrot 4097 3' 'mandelbrot 3 4097' 'mandelbrot 3 4 5' \
         turns 'turns 3' 'turns 0 3' 'turns 3 0' 'turns 65537 3' 'turns 3 65537' 'turns 3 4 5' \
         'primes 9 --streams' 'primes 9 --streams 0' 'primes 9 --streams 65' 'primes 9 --streams +4' 'primes 9 --streams=4' \
-        'primes 9 --streams 4 4' 'primes 9 --stream 4' 'primes --streams 4 9' '--streams 4 primes 9' '-- primes 9' '--help' '-h' '--version' help; do
+        'primes 9 --streams 4 4' 'primes 9 --stream 4' 'primes --streams 4 9' '--streams 4 primes 9' '-- primes 9' '--help 9' '-h' '--version --help' help; do
         call "$program" $words
         came "the words '$words'" 2 "" "$words_are_bad"
     done
@@ -223,6 +223,16 @@ try_bad_words() {
     came "a word that is not UTF-8" 2 "" "abtwork: bad command line"
     call "$program" primes ٣
     came "digits that are not ASCII" 2 "" "$words_are_bad"
+}
+
+# What the program says of itself.
+try_itself() {
+    call "$program" --help
+    came "its words" 0 "$(printf 'abtwork %s\n' 'primes N [--streams S]' 'queens N [--streams S]' 'lcs FILE FILE [--streams S]' 'mergesort FILE [--streams S]' \
+        'mandelbrot WIDTH HEIGHT [--streams S]' 'turns NODES TURNS [--streams S]' --help --version)" ""
+    call "$program" --version
+    came "its version" 0 "$(version_of abtwork)" ""
+    fills "$cannot_write" "$program" --version
 }
 
 # A few bytes at a time, in and out; and each read and each write fails in turn.
@@ -254,7 +264,7 @@ try_names() {
 try_reading() {
     tries_reading mergesort "$numbers" "@$sorted"
     call "$program" mergesort ''
-    came "an empty name" 5 "" "$cannot_read"
+    came "an empty name" 5 "" "$(blamed "" absent)"
     call "$program" queens 8 <&-
     came "standard input is not read" 0 "queens 92" ""
 }
@@ -281,6 +291,7 @@ try_sorting
 try_pictures
 try_turns
 try_bad_words
+try_itself
 try_few_bytes
 try_names
 try_reading

@@ -164,6 +164,9 @@ holds() {
     if "$@"; then pass; else miss "$title" "not so: $*"; fi
 }
 
+# version_of NAME: the line that a program says of its version, which names the logic of the toolchain that is on the path.
+version_of() { echo "$1 1, proved by the logic $(rt version | sed 's/.* logic //')"; }
+
 # Waits until the file has something, at most two minutes.
 until_there() {
     local count=0
@@ -184,6 +187,9 @@ make_meddler() {
 # What programs do with files and standard streams, tried alike of those that have a command of a word and a file. Its output
 # for that file is WANTED, as `came` takes it; $cannot_read and $cannot_write are the program's messages.
 
+# blamed FILE WHY: what is said of a file that cannot be read.
+blamed() { printf '%s\n%s: %s\n' "$cannot_read" "$1" "$2"; }
+
 # tries_names WORD FILE WANTED NAME..: a file may have any of these names.
 tries_names() {
     local word=$1 file=$2 wanted=$3 name
@@ -200,7 +206,7 @@ tries_long_names() {
     local name
     name=$(printf '%0300d' 0)
     call "$program" "$1" "$name"
-    came "a name of 300 bytes in one part" 5 "" "$cannot_read"
+    came "a name of 300 bytes in one part" 5 "" "$(blamed "$name" "cannot be read")"
     name=$(printf '%0100d/' 1 2 3)file
     mkdir -p "./${name%/*}"
     cp "$2" "./$name"
@@ -213,17 +219,17 @@ tries_reading() {
     call "$program" "$1" - <"$2"
     came "standard input" 0 "$3" ""
     call "$program" "$1" "$room/absent"
-    came "an absent file" 5 "" "$cannot_read"
+    came "an absent file" 5 "" "$(blamed "$room/absent" absent)"
     call "$program" "$1" "$room"
-    came "a folder" 5 "" "$cannot_read"
+    came "a folder" 5 "" "$(blamed "$room" "a folder")"
     call "$program" "$1" "$2/below"
-    came "a file as a folder" 5 "" "$cannot_read"
+    came "a file as a folder" 5 "" "$(blamed "$2/below" "cannot be read")"
     call "$program" "$1" - <"$room"
-    came "a folder on standard input" 5 "" "$cannot_read"
+    came "a folder on standard input" 5 "" "$(blamed - "a folder")"
     call "$program" "$1" - <&-
-    came "a closed standard input" 5 "" "$cannot_read"
+    came "a closed standard input" 5 "" "$(blamed - "cannot be read")"
     call "$program" "$1" - 0>"$room/written"
-    came "a standard input that is open for writing" 5 "" "$cannot_read"
+    came "a standard input that is open for writing" 5 "" "$(blamed - "cannot be read")"
     call "$program" "$1" "$2" <&-
     came "a file and a closed standard input" 0 "$3" ""
 }
@@ -276,12 +282,12 @@ tries_a_small_file() {
     came "a file that must not grow" 6 "@$room/wanted" "$cannot_write"
 }
 
-# tries_failing_reads WORD FILE MOST: each of the first three reads of MOST bytes fails in turn.
+# tries_failing_reads WORD FILE MOST [FIRST]: each of the first three reads of MOST bytes fails in turn; they are of FIRST, or else of FILE.
 tries_failing_reads() {
     local number
     for number in 1 2 3; do
         meddled TRIAL_READ="$3" TRIAL_NO_READ=$number "$program" "$1" "$2"
-        came "read $number fails" 5 "" "$cannot_read"
+        came "read $number fails" 5 "" "$(blamed "${4:-$2}" "cannot be read")"
     done
 }
 

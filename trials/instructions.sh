@@ -46,8 +46,8 @@ one_stream yields 'repeat 255 yield'
 one_stream adds 'repeat 255 add 1'
 one_stream locks "$(for _ in {1..127}; do printf 'lock 0\nunlock 0\n'; done)"
 beside_idle idle 'repeat 255 yield'
-takes yields 180 "$room/yields.abt"
-takes idle 198 "$room/idle.abt"
+takes yields 155 "$room/yields.abt"
+takes idle 170 "$room/idle.abt"
 takes adds 200 "$room/adds.abt"
 takes locks 295 "$room/locks.abt"
 prints printed 200 "$room/yields.abt"
