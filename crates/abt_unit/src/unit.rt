@@ -165,7 +165,8 @@ impl Unit {
         self.body.output.len() < self.body.output.capacity()
     }
 
-    /// Takes room for one more piece of output, if there is none. If that is out of memory, nothing changes.
+    /// Takes room for one more piece of output, if there is none: at first for one alone, since most units never say more. If that
+    /// is out of memory, nothing changes.
     pub fn reserve_output(&mut self) -> Result<(), Want>
         ensures room { OnOk result (0 < self.new.spare) }
         ensures kept { self.old.spare ≤ self.new.spare }
@@ -173,6 +174,10 @@ impl Unit {
         ensures err { OnErr result (self.new ≡ self.old) }
         ensures only_full { OnErr result (self.old.spare ≡ 0) }
     {
+        if self.body.output.capacity() == 0 {
+            self.body.output.reserve_exact(1)?;
+            return Ok(());
+        }
         self.body.output.reserve(1)?;
         Ok(())
     }
