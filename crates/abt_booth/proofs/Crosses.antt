@@ -1,4 +1,4 @@
--- If the object may go to another thread, so may a seat, a holder, what it holds and a booth, and a booth may be shared.
+-- If the object may go to another thread, so may a seat, a holder and a booth, and a booth may be shared.
 use denote.RattleType.{RattleType}
 use denote.Struct.Declared.{shape}
 use denote.Param.Send.{IsSend, IsSync, recorded_sync, sendable, struct_sync}
@@ -14,17 +14,9 @@ use Rattle.abt_booth.specs.contracts.booth.Seat as Seat
 use Rattle.abt_booth.specs.contracts.booth.Gathered as Gathered
 use Rattle.abt_booth.specs.contracts.booth.Booth as Booth
 use Rattle.abt_booth.specs.contracts.holder.Holder as Holder
-use Rattle.abt_booth.specs.contracts.holder.Held as Held
 
 Lot-send : (O A R : RattleType) → IsSend O → IsSend (Lot.the_row O A R)
 Lot-send O A R s = search sendable depth 20
-
-pub Held-send : (O A R : RattleType) → IsSend O → IsSend (Held.the_row O A R)
-Held-send O A R s = search sendable depth 20
-
--- the same, as a field of another struct
-pub Held-field-send : (O A R : RattleType) → IsSend O → IsSend (Held.the_field O A R).row
-Held-field-send O A R s = search sendable depth 20
 
 module _ (O A R : RattleType) (g : Ghosts O.Denot A.Denot R.Denot) where
   pub Seat-send : IsSend O → IsSend (Seat.the_row O A R g)
@@ -61,4 +53,4 @@ module _ (O A R : RattleType) (g : Ghosts O.Denot A.Denot R.Denot) where
       (struct_sync (shape (Booth.the_type O A R g)) (search (sendable, shared.the_sync, lease.the_sync, heap.the_sync, heap.the_send, frees, Lot-send) depth 20, (word.the_sync, tt)))
 
 -- all of these, for `search`
-pub ruleset booth_crosses = (Seat-send, Gathered-send, Holder-send, Held-send, Booth-send, Booth-sync, Seat-field-send, Gathered-field-send, Holder-field-send, Held-field-send, Booth-field-send, Booth-field-sync)
+pub ruleset booth_crosses = (Seat-send, Gathered-send, Holder-send, Booth-send, Booth-sync, Seat-field-send, Gathered-field-send, Holder-field-send, Booth-field-send, Booth-field-sync)

@@ -47,7 +47,7 @@ module _ {O A R : Type 0} (does : O → A → R → O → Type 0) (o : O) (n : �
         known = All-nil (λ e. e.caller < n);
         fits = λ j v e. subst (Fits o n []) (at_keeper j v e) (λ k l h. let t = has-keeper o n k l h in (refl, t.0, subst (λ (x : List (Entry A R)). Extends k x []) (sym t.1) (extends-self k [])));
         unique = λ j j' v v' k l l' e e' _ _. (alone (keeper o n) v j e).0 ∙ sym (alone (keeper o n) v' j' e').0;
-        turn = inl (lot, refl, refl, sym is, zero_is, λ j v e. ap (λ (y : View O A R). y.holds) (sym (at_keeper j v e)));
+        turn = inl (lot, (0, refl), refl, sym is, zero_is, λ j v e. ap (λ (y : View O A R). y.holds) (sym (at_keeper j v e)));
       }
 
   -- a view without the turn may deal its lowest number

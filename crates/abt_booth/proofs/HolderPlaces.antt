@@ -3,8 +3,7 @@ use Rattle.std.proofs.Common.{◌≡◌, Option, Some, None, sym, ◌∙◌, ap,
 use Rattle.abt_booth.specs.declared.object.Object.{Ghosts}
 use Rattle.abt_booth.specs.declared.booth.Booth.{Booth}
 use Rattle.abt_booth.specs.declared.holder.Holder.{Holder}
-use Rattle.abt_booth.specs.declared.holder.Held.{Held}
-use Rattle.abt_booth.specs.Holders.{HasTurn, IsHolderOf, IsTaken, sight_held}
+use Rattle.abt_booth.specs.Holders.{HasTurn, IsBusy, IsHolderOf}
 use Rattle.abt_booth.specs.Places.{holder_place, place_of}
 use Rattle.abt_booth.specs.Seats.{opening_of}
 
@@ -17,12 +16,17 @@ module _ {O A R : Type 0} {g : Ghosts O A R} (booth : Booth O A R) (holder : Hol
   unfolding IsHolderOf holder_place place_of
   of-place same = (ap (λ p. p.0) same, ap (λ p. p.1) same)
 
-  -- what it took out of a booth it took out of this one
-  pub same-turn : (does : O → A → R → O → Type 0) (other : Booth O A R) (held : Held O A R) → IsHolderOf booth holder → IsHolderOf other holder → HasTurn does other holder held → HasTurn does booth holder held
+  -- a holder that keeps the turn is of the booth
+  pub of-turn : (does : O → A → R → O → Type 0) → HasTurn does booth holder → IsHolderOf booth holder
+  unfolding HasTurn
+  of-turn does turn = turn.0
+
+  -- the turn that it keeps is of this booth
+  pub same-turn : (does : O → A → R → O → Type 0) (other : Booth O A R) → IsHolderOf booth holder → HasTurn does other holder → HasTurn does booth holder
   unfolding IsHolderOf HasTurn
-  same-turn does other held its others turn =
-      let same : opening_of other ≡ opening_of booth = open-some (sym others.1 ∙ its.1) in
-      (turn.0, subst (λ o. IsTaken does o (sight_held holder held) held) same turn.1)
+  same-turn does other its turn =
+      let same : opening_of other ≡ opening_of booth = open-some (sym turn.0.1 ∙ its.1) in
+      (its, subst (λ o. IsBusy does o holder.raw.me) same turn.1)
     where
       from : Option O → O
       from None = opening_of booth

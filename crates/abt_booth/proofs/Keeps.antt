@@ -1,5 +1,5 @@
 -- Each step on a booth's table keeps its rule.
-use Rattle.std.proofs.Common.{◌≡◌, ◌≢◌, ℕ, zero, suc, ◌+◌, ◌*◌, ◌%◌, ◌<◌, ◌≤◌, ◌^◌, inl, inr, ⊎_elim, Bool, true, false, List, [], ◌∷◌, length, eqb, eq-eqb, ne_eqb, get_or, set, refl, sym, ap, ◌∙◌, subst, arith, le_refl, true≢false, Some}
+use Rattle.std.proofs.Common.{◌≡◌, ◌≢◌, ℕ, zero, suc, ◌+◌, ◌*◌, ◌%◌, ◌<◌, ◌≤◌, ◌^◌, inl, inr, ⊎_elim, Bool, true, false, List, [], ◌∷◌, eqb, eq-eqb, ne_eqb, get_or, set, refl, sym, ap, ◌∙◌, subst, arith, le_refl, true≢false, Some}
 use mathlib.Core.Logic.{dite}
 use mathlib.Core.Option.{none, some, some-ne-none}
 use native.Mathlib.Decide.{ℕ_discrete}
@@ -13,10 +13,10 @@ use Rattle.std.proofs.lemmas.Bool.{false_from_ne_true}
 use Rattle.abt_interleave.specs.declared.entries.Entry.{Entry}
 use Rattle.abt_interleave.specs.Histories.{Extends}
 use Rattle.abt_booth.specs.declared.rule.View.{View}
-use Rattle.abt_booth.specs.declared.holder.Held.{Held}
+use Rattle.abt_booth.specs.declared.rule.Lot.{Lot}
 use Rattle.std.specs.List.{All}
 use Rattle.std.proofs.lemmas.List.Elements.{All-append, All-map}
-use Rattle.abt_booth.specs.Rule.{counting, KeptLot, TableState, SeatState, Has, Fits, IsFree, IsHeld, Kept, entry_of, entries_of, holding, resting, took, released}
+use Rattle.abt_booth.specs.Rule.{turn_word, KeptLot, TableState, SeatState, Has, Fits, IsFree, IsHeld, Kept, entry_of, entries_of, holding, resting, took, released}
 use Rattle.abt_booth.specs.Holders.{sight_of, IsTaken}
 use Rattle.abt_booth.proofs.Places.{index-at}
 use Rattle.abt_interleave.proofs.Prefixes.{extends-self}
@@ -71,27 +71,28 @@ module _ {O A R : Type 0} (does : O → A → R → O → Type 0) (o : O) (n : �
   Rule = Kept does o n
 
   abbrev word : TableState O A R → ℕ
-  word s = get_or s.words counting 0
+  word s = get_or s.words turn_word 0
 
   -- a step that changes nothing
-  unmoved : (s : TableState O A R) (id : ℕ) (v : View O A R) (x : ℕ) → x ≡ word s → get_elem? s.views id ≡ some v → Rule s → Rule record { words = set s.words counting x; homes = s.homes; views = set s.views id v }
+  unmoved : (s : TableState O A R) (id : ℕ) (v : View O A R) (x : ℕ) → x ≡ word s → get_elem? s.views id ≡ some v → Rule s → Rule record { words = set s.words turn_word x; homes = s.homes; views = set s.views id v }
   unmoved s id v x e at r = subst (λ (z : List ℕ × List (View O A R)). Rule record { words = z.0; homes = s.homes; views = z.1 })
-      (λ i. (sym (ap (set s.words counting) e ∙ set-get_or s.words counting 0) i, sym (set_again s.views id v at) i)) r
+      (λ i. (sym (ap (set s.words turn_word) e ∙ set-get_or s.words turn_word 0) i, sym (set_again s.views id v at) i)) r
 
   own : (log : List (Entry A R)) (v : View O A R) → v.number < v.next → Fits o n log v → (v.opening ≡ Some o) × (v.number < n) × Extends v.number v.seen log
   own log v lt f = f v.number v.seen (inl (le_refl v.number, lt, refl))
 
   takes-free : (slots : ℕ) (s : TableState O A R) (r : Rule s) (id : ℕ) (me : SeatState O A R) (free : ℕ) → me.0.number < me.0.next → get_elem? s.views id ≡ some me.0 → word s ≡ free → IsFree does o r.log s
-      → (w : View O A R) × (a : Act (KeptLot O A R)) × Valid s.homes me.1 a × Rule (stepped s counting (either (eqb (word s) free) (free + 1) (word s)) id me.1 w a) × took does (step slots counting free (free + 1) none) me (word s) (w, carried_after me.1 a)
+      → (w : View O A R) × (a : Act (KeptLot O A R)) × Valid s.homes me.1 a × Rule (stepped s turn_word (either (eqb (word s) free) (free + 1) (word s)) id me.1 w a) × took does (step slots turn_word free (free + 1) none) me (word s) (w, carried_after me.1 a)
   takes-free slots s r id me free lt at hit t =
       let lot = t.0 in
-      let words = t.1 in
+      let turns = t.1.0 in
+      let words = t.1.1 in
       let homes = t.2 in
       let v = me.0 in
       let w = holding v r.log in
       let x : ℕ = word s in
-      let wd : x ≡ 2 * length r.log = (index-at s.words counting (2 * length r.log) 0 words).1 in
-      let next : either (eqb x free) (free + 1) x ≡ 2 * length r.log + 1 = ap (λ b. either b (free + 1) x) (eq-eqb x free hit) ∙ ap (λ (z : ℕ). z + 1) (sym hit ∙ wd) in
+      let even : x ≡ 2 * turns = (index-at s.words turn_word (2 * turns) 0 words).1 in
+      let next : either (eqb x free) (free + 1) x ≡ 2 * turns + 1 = ap (λ b. either b (free + 1) x) (eq-eqb x free hit) ∙ ap (λ (z : ℕ). z + 1) (sym hit ∙ even) in
       let f = own r.log v lt (r.fits id v at) in (
         w,
         takes 0 (Some lot),
@@ -106,7 +107,7 @@ module _ {O A R : Type 0} (does : O → A → R → O → Type 0) (o : O) (n : �
           turn = inr (
             id,
             w,
-            put-there s.words counting (2 * length r.log) _ words ∙ ap some next,
+            (turns, put-there s.words turn_word (2 * turns) _ words ∙ ap some next),
             ap (λ (hs : List (Maybe (KeptLot O A R))). set hs 0 none) homes,
             put-there s.views id v w at,
             lt,
@@ -116,14 +117,14 @@ module _ {O A R : Type 0} (does : O → A → R → O → Type 0) (o : O) (n : �
                 (λ (c : (j ≢ id) × (get_elem? s.views j ≡ some u)). absurd (true≢false (sym h ∙ t.5 j u c.1))) (at_set s.views id j w u e)),
           );
         },
-        ((λ _. (o, r.log, lot, f.0, refl, (r.rises, t.3), t.4, wd, r.capped, f.2)), (λ no. absurd (no hit))),
+        ((λ _. (o, r.log, lot, f.0, refl, (r.rises, t.3), t.4, r.capped, f.2)), (λ no. absurd (no hit))),
       )
 
   pub takes-turn : (slots id : ℕ) (me : SeatState O A R) (free : ℕ) → free % 2 ≡ 0 → me.0.number < me.0.next
-      → Allows Rule slots id me counting (λ r. either (eqb r free) (free + 1) r) (took does (step slots counting free (free + 1) none) me)
+      → Allows Rule slots id me turn_word (λ r. either (eqb r free) (free + 1) r) (took does (step slots turn_word free (free + 1) none) me)
   takes-turn slots id me free even lt s r sized at small = let x : ℕ = word s in dite (ℕ_discrete x free)
       (λ hit. ⊎_elim (λ (t : IsFree does o r.log s). takes-free slots s r id me free lt at hit t)
-      (λ (t : IsHeld r.log s). let words = t.2 in let wd : x ≡ 2 * length r.log + 1 = (index-at s.words counting (2 * length r.log + 1) 0 words).1 in let odd : free ≡ 2 * length r.log + 1 = sym hit ∙ wd in absurd (omega arith)) r.turn)
+      (λ (t : IsHeld r.log s). let turns = t.2.0 in let wd : x ≡ 2 * turns + 1 = (index-at s.words turn_word (2 * turns + 1) 0 t.2.1).1 in let odd : free ≡ 2 * turns + 1 = sym hit ∙ wd in absurd (omega arith)) r.turn)
       (λ miss. (me.0, keeps, tt, unmoved s id me.0 (either (eqb x free) (free + 1) x) (ap (λ b. either b (free + 1) x) (ne_eqb x free miss)) at r, ((λ hit. absurd (miss hit)), λ _. refl)))
 
   -- no view of a free table holds the turn, if the seat's view held it and holds it no more
@@ -133,12 +134,12 @@ module _ {O A R : Type 0} (does : O → A → R → O → Type 0) (o : O) (n : �
       (λ (c : (j ≡ id) × (w ≡ u)). ap (λ (y : View O A R). y.holds) (sym c.1) ∙ hw)
       (λ (c : (j ≢ id) × (get_elem? vs j ≡ some u)). false_from_ne_true u.holds (λ h. c.0 (only j u c.1 h ∙ sym (only id v at hv)))) (at_set vs id j w u e)
 
-  releases-held : (s : TableState O A R) (r : Rule s) (id : ℕ) (v : View O A R) (held : Held O A R)
-      → v.holds ≡ true → v.number < v.next → v.taken ≡ [] → IsTaken does o (sight_of v held.lot) held → get_elem? s.views id ≡ some v
-      → IsHeld r.log s → Rule (stepped s counting held.free id ((0, Some held.lot) ∷ []) (resting v (sight_of v held.lot)) gives)
-  releases-held s r id v held hv lt tk taken at t =
-      let calls = held.lot.made.value in
-      let more : List (Entry A R) = sight_of v held.lot in
+  releases-held : (s : TableState O A R) (r : Rule s) (id : ℕ) (v : View O A R) (lot : Lot O A R) (turns : ℕ)
+      → v.holds ≡ true → v.number < v.next → v.taken ≡ [] → IsTaken does o (sight_of (v, (0, Some lot) ∷ [])) lot → get_elem? s.views id ≡ some v
+      → IsHeld r.log s → Rule (stepped s turn_word (2 * turns) id ((0, Some lot) ∷ []) (resting v (sight_of (v, (0, Some lot) ∷ []))) gives)
+  releases-held s r id v lot turns hv lt tk taken at t =
+      let calls = lot.made.value in
+      let more : List (Entry A R) = sight_of (v, (0, Some lot) ∷ []) in
       let only = t.7 in
       let sl : v.seen ≡ r.log = (only id v at hv).1 in
       let old : (j : ℕ) (u : View O A R) → get_elem? s.views j ≡ some u → Fits o n v.seen u = λ j u a. subst (λ (l : List (Entry A R)). Fits o n l u) (sym sl) (r.fits j u a) in
@@ -159,9 +160,9 @@ module _ {O A R : Type 0} (does : O → A → R → O → Type 0) (o : O) (n : �
             ));
         unique = unique-after s.views id v w at (narrows-seen v false more) r.unique;
         turn = inl (
-          held.lot,
-          put-there s.words counting (2 * length r.log + 1) held.free t.2 ∙ ap some taken.free,
-          ap (λ (hs : List (Maybe (KeptLot O A R))). set hs 0 (some (Some held.lot))) t.3,
+          lot,
+          (turns, put-there s.words turn_word (2 * t.2.0 + 1) (2 * turns) t.2.1),
+          ap (λ (hs : List (Maybe (KeptLot O A R))). set hs 0 (some (Some lot))) t.3,
           taken.leads,
           taken.clock,
           let-go s.views id t.0 v w at hv refl (λ j u a h. (only j u a h).0),
@@ -169,12 +170,12 @@ module _ {O A R : Type 0} (does : O → A → R → O → Type 0) (o : O) (n : �
       }
 
   -- a view with the turn may give it back, with the object that its calls lead to
-  pub releases : (slots id : ℕ) (v : View O A R) (held : Held O A R) → v.holds ≡ true → v.number < v.next → v.taken ≡ [] → IsTaken does o (sight_of v held.lot) held
-      → let me : SeatState O A R = (v, (0, Some held.lot) ∷ []) in Allows Rule slots id me counting (λ _. held.free) (λ _. released (step slots counting held.free 0 none) me held.free)
-  releases slots id v held hv lt tk taken s r sized at small = (
-    resting v (sight_of v held.lot),
+  pub releases : (slots id : ℕ) (v : View O A R) (lot : Lot O A R) (turns : ℕ) → v.holds ≡ true → v.number < v.next → v.taken ≡ []
+      → let me : SeatState O A R = (v, (0, Some lot) ∷ []) in IsTaken does o (sight_of me) lot → Allows Rule slots id me turn_word (λ _. 2 * turns) (λ _. released (step slots turn_word (2 * turns) 0 none) me (2 * turns))
+  releases slots id v lot turns hv lt tk taken s r sized at small = (
+    resting v (sight_of (v, (0, Some lot) ∷ [])),
     gives,
     tt,
-    ⊎_elim (λ (t : IsFree does o r.log s). absurd (true≢false (sym hv ∙ t.5 id v at))) (λ (t : IsHeld r.log s). releases-held s r id v held hv lt tk taken at t) r.turn,
+    ⊎_elim (λ (t : IsFree does o r.log s). absurd (true≢false (sym hv ∙ t.5 id v at))) (λ (t : IsHeld r.log s). releases-held s r id v lot turns hv lt tk taken at t) r.turn,
     refl,
   )

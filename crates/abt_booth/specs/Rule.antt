@@ -1,5 +1,5 @@
 -- The rule of a booth's table, and what each step ensures.
-use Rattle.std.specs.Prelude.{◌≡◌, ℕ, suc, ◌+◌, ◌*◌, ◌<◌, ◌≤◌, ◌^◌, List, [], ◌∷◌, ◌++◌, map, length, true, false, ◌⊎◌, Some, None, Option}
+use Rattle.std.specs.Prelude.{◌≡◌, ℕ, suc, ◌+◌, ◌*◌, ◌<◌, ◌≤◌, ◌^◌, List, [], ◌∷◌, ◌++◌, map, true, false, ◌⊎◌, Some, None, Option}
 use mathlib.Core.Option as m
 use lib.ListN.{get_elem?}
 use Rattle.atomic_table.specs.Table.{State, Me, Step, rest}
@@ -32,14 +32,14 @@ entry_of n call = record { stamp = call.stamp; caller = n; act = call.act.value;
 abbrev pub entries_of : {A R : Type 0} → ℕ → List (Call A R) → List (Entry A R)
 entries_of n calls = map (entry_of n) calls
 
--- the word that counts the calls: the words before and after it are never used, and keep those that count apart
-abbrev pub counting : ℕ
-counting = 3
+-- the word of the turn: the words before and after it are never used, and keep those of two tables apart
+abbrev pub turn_word : ℕ
+turn_word = 3
 
 module _ {O A R : Type 0} where
-  -- the counting word is n
-  abbrev pub Counts : TableState O A R → ℕ → Type 0
-  Counts s n = get_elem? s.words counting ≡ m.some n
+  -- the word of the turn is n
+  abbrev pub TurnIs : TableState O A R → ℕ → Type 0
+  TurnIs s n = get_elem? s.words turn_word ≡ m.some n
 
   -- it has the numbers from i to before n, and has seen nothing
   abbrev pub keeping : O → ℕ → ℕ → View O A R
@@ -65,14 +65,14 @@ module _ {O A R : Type 0} where
   abbrev pub Fits : O → ℕ → List (Entry A R) → View O A R → Type 0
   Fits o n log v = (k : ℕ) (l : List (Entry A R)) → Has v k l → (v.opening ≡ Some o) × (k < n) × Extends k l log
 
-  -- the turn is free: the word is twice the calls made, the slot has the object that the log leads to, and no view holds the turn
+  -- the turn is free: its word is even, the slot has the object that the log leads to, and no view holds the turn
   abbrev pub IsFree : (O → A → R → O → Type 0) → O → List (Entry A R) → TableState O A R → Type 0
-  IsFree does o log s = (lot : Lot O A R) × Counts s (2 * length log) × (s.homes ≡ m.some (Some lot) ∷ []) × Leads does o log lot.object × (lot.clock ≡ last_stamp (entry_stamps log))
+  IsFree does o log s = (lot : Lot O A R) × ((n : ℕ) × TurnIs s (2 * n)) × (s.homes ≡ m.some (Some lot) ∷ []) × Leads does o log lot.object × (lot.clock ≡ last_stamp (entry_stamps log))
       × ((j : ℕ) (v : View O A R) → get_elem? s.views j ≡ m.some v → v.holds ≡ false)
 
-  -- the turn is held: the word is one more, the slot is out, and one live view holds the turn, which has seen the log
+  -- the turn is held: its word is odd, the slot is out, and one live view holds the turn, which has seen the log
   abbrev pub IsHeld : List (Entry A R) → TableState O A R → Type 0
-  IsHeld log s = (holder : ℕ) × (who : View O A R) × Counts s (2 * length log + 1) × (s.homes ≡ m.none ∷ []) × (get_elem? s.views holder ≡ m.some who) × (who.number < who.next) × (who.holds ≡ true)
+  IsHeld log s = (holder : ℕ) × (who : View O A R) × ((n : ℕ) × TurnIs s (2 * n + 1)) × (s.homes ≡ m.none ∷ []) × (get_elem? s.views holder ≡ m.some who) × (who.number < who.next) × (who.holds ≡ true)
       × ((j : ℕ) (v : View O A R) → get_elem? s.views j ≡ m.some v → v.holds ≡ true → (j ≡ holder) × (v.seen ≡ log))
 
   -- The rule. The log is the one history: its stamps rise from above 0 to at most 2^62, each call is of a number below n, and no number is with two views.
@@ -94,15 +94,15 @@ module _ {O A R : Type 0} where
   resting v log = record { opening = v.opening; number = v.number; next = v.next; seen = log; holds = false; taken = v.taken }
 
   -- the seat has the turn and the object, and has seen the history
-  abbrev pub Takes : (O → A → R → O → Type 0) → SeatState O A R → ℕ → SeatState O A R → Type 0
-  Takes does m r m' = (o : O) × (log : List (Entry A R)) × (lot : Lot O A R)
+  abbrev pub Takes : (O → A → R → O → Type 0) → SeatState O A R → SeatState O A R → Type 0
+  Takes does m m' = (o : O) × (log : List (Entry A R)) × (lot : Lot O A R)
       × (m.0.opening ≡ Some o) × (m' ≡ (holding m.0 log, (0, Some lot) ∷ m.1))
-      × Legal does o log lot.object × (lot.clock ≡ last_stamp (entry_stamps log)) × (r ≡ 2 * length log) × (last_stamp (entry_stamps log) ≤ 2 ^ 62)
+      × Legal does o log lot.object × (lot.clock ≡ last_stamp (entry_stamps log)) × (last_stamp (entry_stamps log) ≤ 2 ^ 62)
       × Extends m.0.number m.0.seen log
 
   -- it took the turn, or found another number
   abbrev pub took : (O → A → R → O → Type 0) → Step (KeptLot O A R) → SeatState O A R → ℕ → SeatState O A R → Type 0
-  took does st m r m' = (r ≡ st.first → Takes does m r m') × (¬ (r ≡ st.first) → m' ≡ m)
+  took does st m r m' = (r ≡ st.first → Takes does m m') × (¬ (r ≡ st.first) → m' ≡ m)
 
   -- the calls of the turn in which seat n had this lot
   abbrev pub entries_in : ℕ → KeptLot O A R → List (Entry A R)

@@ -1,14 +1,14 @@
 //! Holders: seats that may keep the turn between their calls.
-#![tactic(auto, unfolding(crate::specs::Holders::holder_number, crate::specs::Holders::holder_seen, crate::specs::Holders::sight_held, crate::specs::Holders::HasTurn, crate::specs::Holders::IsHolderOf, crate::specs::Holders::Rests, crate::specs::Seats::number_of, crate::specs::Seats::seen_of, crate::specs::Seats::IsSeatOf,))]
+#![tactic(auto, unfolding(crate::specs::Holders::holder_number, crate::specs::Holders::holder_seen, crate::specs::Holders::HasTurn, crate::specs::Holders::IsHolderOf, crate::specs::Holders::Rests, crate::specs::Seats::number_of, crate::specs::Seats::seen_of, crate::specs::Seats::IsSeatOf,))]
 
-ghost use Rattle.std.specs.Prelude.{◌≡◌, ◌≤◌, ◌^◌, ◌++◌, IfSome, None, Some};
+ghost use Rattle.std.specs.Prelude.{◌≡◌, ◌≤◌, ◌^◌, ◌++◌, false, true};
 ghost use Rattle.abt_interleave.specs.Histories.{Extends};
 ghost use Rattle.abt_booth.specs.Calls.{GrowsBy};
-ghost use Rattle.abt_booth.specs.Holders.{holder_number, holder_seen, sight, HasTurn, IsHolderOf, Rests};
+ghost use Rattle.abt_booth.specs.Holders.{holder_number, holder_seen, HasTurn, IsHolderOf, Rests};
 ghost use Rattle.abt_booth.specs.Seats.{added_by, number_of, opening_of, seen_of, IsReply, IsSeatOf};
 
 use crate::booth::{Booth, Called, Seat};
-use crate::holder::{Held, Holder};
+use crate::holder::Holder;
 use crate::object::Object;
 use std::sync::Wait;
 
@@ -40,60 +40,54 @@ impl<O: Object> Holder<O> {
 
 impl<O: Object> Booth<O> {
     /// Takes the turn for the holder, which keeps it until it is given back. It may wait, and takes no memory.
-    pub fn hold<R: Wait>(&self, rt: &R, holder: &mut Holder<O>) -> Held<O>
+    pub fn hold<R: Wait>(&self, rt: &R, holder: &mut Holder<O>)
         requires holder { IsHolderOf self.now holder.old }
         requires rests { Rests holder.old }
         ensures holder { IsHolderOf self.now holder.new }
         ensures number { holder_number holder.new ≡ holder_number holder.old }
-        ensures turn { HasTurn O.does self.now holder.new result }
-        ensures met { Extends (holder_number holder.old) (holder_seen holder.old) (sight holder.new (Some result)) }
+        ensures turn { HasTurn O.does self.now holder.new }
+        ensures met { Extends (holder_number holder.old) (holder_seen holder.old) (holder_seen holder.new) }
     {
-        self.begin(rt, &mut holder.raw)
+        self.begin(rt, &mut holder.raw);
     }
 
-    /// Takes the turn for the holder if it is free at once. None: another seat has it, or took it first.
-    pub fn try_hold(&self, holder: &mut Holder<O>) -> Option<Held<O>>
+    /// Takes the turn for the holder if it is free at once. Returns whether that is so: if not, another seat has it, or took it first.
+    pub fn try_hold(&self, holder: &mut Holder<O>) -> bool
         requires holder { IsHolderOf self.now holder.old }
         requires rests { Rests holder.old }
         ensures holder { IsHolderOf self.now holder.new }
         ensures number { holder_number holder.new ≡ holder_number holder.old }
-        ensures turn { IfSome result (λ held. HasTurn O.does self.now holder.new held) }
-        ensures met { IfSome result (λ held. Extends (holder_number holder.old) (holder_seen holder.old) (sight holder.new (Some held))) }
-        ensures rests { result ≡ None → Rests holder.new }
-        ensures seen { result ≡ None → holder_seen holder.new ≡ holder_seen holder.old }
+        ensures turn { result ≡ true → HasTurn O.does self.now holder.new }
+        ensures met { result ≡ true → Extends (holder_number holder.old) (holder_seen holder.old) (holder_seen holder.new) }
+        ensures rests { result ≡ false → Rests holder.new }
+        ensures seen { result ≡ false → holder_seen holder.new ≡ holder_seen holder.old }
     {
         self.try_begin(&mut holder.raw)
     }
 
-    /// Asks the object that the holder keeps: a call as any other, but it waits for nobody, and no other seat's call stands
+    /// Asks the object whose turn the holder keeps: a call as any other, but it waits for nobody, and no other seat's call stands
     /// between it and the holder's call before it.
-    pub fn call_held(
-        &self,
-        holder: &Holder<O>,
-        held: &mut Held<O>,
-        at: u64,
-        act: O::Act,
-    ) -> Called<O>
-        requires turn { HasTurn O.does self.now holder.now held.old }
+    pub fn call_held(&self, holder: &mut Holder<O>, at: u64, act: O::Act) -> Called<O>
+        requires turn { HasTurn O.does self.now holder.old }
         requires act { O.allowed (opening_of self.now) act }
         requires at { at ≤ 2 ^ 62 }
-        ensures turn { HasTurn O.does self.now holder.now held.new }
-        ensures reply { IsReply O.does (opening_of self.now) (holder_number holder.now) (sight holder.now (Some held.old)) (sight holder.now (Some held.new)) at act result }
-        ensures grows { GrowsBy (holder_number holder.now) (sight holder.now (Some held.old)) (sight holder.now (Some held.new)) (added_by (holder_number holder.now) act result) }
-        ensures alone { sight holder.now (Some held.new) ≡ sight holder.now (Some held.old) ++ added_by (holder_number holder.now) act result }
+        ensures turn { HasTurn O.does self.now holder.new }
+        ensures number { holder_number holder.new ≡ holder_number holder.old }
+        ensures reply { IsReply O.does (opening_of self.now) (holder_number holder.old) (holder_seen holder.old) (holder_seen holder.new) at act result }
+        ensures grows { GrowsBy (holder_number holder.old) (holder_seen holder.old) (holder_seen holder.new) (added_by (holder_number holder.old) act result) }
+        ensures alone { holder_seen holder.new ≡ holder_seen holder.old ++ added_by (holder_number holder.old) act result }
     {
-        self.ask(&holder.raw, held, at, act)
+        self.ask(&mut holder.raw, at, act)
     }
 
     /// Gives back the turn that the holder kept, with all calls that it made meanwhile, and wakes one caller that sleeps.
-    pub fn give_back(&self, holder: &mut Holder<O>, held: Held<O>)
-        requires holder { IsHolderOf self.now holder.old }
-        requires turn { HasTurn O.does self.now holder.old held }
+    pub fn give_back(&self, holder: &mut Holder<O>)
+        requires { HasTurn O.does self.now holder.old }
         ensures holder { IsHolderOf self.now holder.new }
         ensures number { holder_number holder.new ≡ holder_number holder.old }
         ensures rests { Rests holder.new }
-        ensures seen { holder_seen holder.new ≡ sight holder.old (Some held) }
+        ensures seen { holder_seen holder.new ≡ holder_seen holder.old }
     {
-        self.release(&mut holder.raw, held);
+        self.release(&mut holder.raw);
     }
 }

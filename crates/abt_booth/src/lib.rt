@@ -15,5 +15,5 @@ mod rule;
 
 pub use booth::{Booth, Called, Closed, Gathered, Seat};
 pub use calls::LAST_STAMP;
-pub use holder::{Held, Holder};
+pub use holder::Holder;
 pub use object::Object;

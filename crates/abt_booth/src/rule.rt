@@ -8,11 +8,12 @@ use std::collections::LinkedList;
 use std::marker::PhantomData;
 use std::snapshot::Snapshot;
 
-/// How many words the table has. Three stand on each side of the one that counts, so that no cache line has two that count.
+/// How many words the table has. Three stand on each side of the word of the turn, so that no cache line has two such words.
 pub(crate) const WORDS: usize = 7;
 
-/// The word that counts the calls.
-pub(crate) const COUNTING: usize = 3;
+/// The word of the turn: an even number while no seat has it, and an odd one while a seat has. It grows with each turn, so that a caller
+/// sleeps only through the turn that it found.
+pub(crate) const TURN: usize = 3;
 
 /// For how many slots there is room. One is used: the rest keeps what stands behind it out of its cache lines.
 pub(crate) const ROOM: usize = 4;

@@ -23,9 +23,9 @@ pub fn put_and_take<R: Wait>(
     ensures rests { Rests holder.new }
     ensures through { GoesThrough booth.now (holder_number holder.old) (holder_seen holder.old) (holder_seen holder.new) letter result.0 result.1 }
 {
-    let mut held = booth.hold(rt, holder);
-    let put = booth.call_held(holder, &mut held, 0, Ask::Put(letter));
-    let taken = booth.call_held(holder, &mut held, 0, Ask::Take);
-    booth.give_back(holder, held);
+    booth.hold(rt, holder);
+    let put = booth.call_held(holder, 0, Ask::Put(letter));
+    let taken = booth.call_held(holder, 0, Ask::Take);
+    booth.give_back(holder);
     (put, taken)
 }

@@ -5,7 +5,7 @@ ghost use Rattle.std.specs.List.{All};
 ghost use Rattle.abt_booth.specs.Holders.{HasTurn, IsHolderOf, Rests};
 ghost use Rattle.booth_caller.specs.Counters.{Adds};
 
-use abt_booth::{Booth, Called, Held, Holder};
+use abt_booth::{Booth, Called, Holder};
 use booth_caller::Counter;
 use std::process::Abort;
 use std::sync::Wait;
@@ -19,16 +19,11 @@ const TURNS: u32 = 2000;
 const CALLS: u32 = 8;
 
 // The stamp and the answer of a call at 0. A worn clock hands the number back.
-fn ask(
-    booth: &Booth<Counter>,
-    holder: &Holder<Counter>,
-    held: &mut Held<Counter>,
-    add: u64,
-) -> Option<(u64, u64)>
-    requires { HasTurn Adds booth.now holder.now held.old }
-    ensures { HasTurn Adds booth.now holder.now held.new }
+fn ask(booth: &Booth<Counter>, holder: &mut Holder<Counter>, add: u64) -> Option<(u64, u64)>
+    requires { HasTurn Adds booth.now holder.old }
+    ensures { HasTurn Adds booth.now holder.new }
 {
-    match booth.call_held(holder, held, 0, add) {
+    match booth.call_held(holder, 0, add) {
         Called::Done { stamp, answer } => Some((stamp, answer)),
         Called::Worn(_) => None,
     }
@@ -44,17 +39,15 @@ fn a_turn_that_is_kept_is_refused_to_others(rt: HostRuntime) {
     };
     let mut keeper = first.into_holder();
     let mut other = second.into_holder();
-    let mut held = booth.hold(&rt, &mut keeper);
-    assert_eq!(rt; ask(&booth, &keeper, &mut held, 5), Some((1, 5)));
-    assert!(rt; booth.try_hold(&mut other).is_none());
-    assert_eq!(rt; ask(&booth, &keeper, &mut held, 1), Some((2, 6)));
-    booth.give_back(&mut keeper, held);
-    let Some(mut held) = booth.try_hold(&mut other) else {
-        panic!(rt; "the turn is free")
-    };
-    assert!(rt; booth.try_hold(&mut keeper).is_none());
-    assert_eq!(rt; ask(&booth, &other, &mut held, 1), Some((3, 7)));
-    booth.give_back(&mut other, held);
+    booth.hold(&rt, &mut keeper);
+    assert_eq!(rt; ask(&booth, &mut keeper, 5), Some((1, 5)));
+    assert!(rt; !booth.try_hold(&mut other));
+    assert_eq!(rt; ask(&booth, &mut keeper, 1), Some((2, 6)));
+    booth.give_back(&mut keeper);
+    assert!(rt; booth.try_hold(&mut other));
+    assert!(rt; !booth.try_hold(&mut keeper));
+    assert_eq!(rt; ask(&booth, &mut other, 1), Some((3, 7)));
+    booth.give_back(&mut other);
     let mut seat = keeper.into_seat();
     let Called::Done { stamp, answer } = booth.call(&rt, &mut seat, 0, 0) else {
         panic!(rt; "the clock is worn")
@@ -67,11 +60,11 @@ fn add_in_a_turn<R: Wait>(rt: &R, booth: &Booth<Counter>, holder: &mut Holder<Co
     requires { IsHolderOf booth.now holder.old × Rests holder.old }
     ensures { IsHolderOf booth.now holder.new × Rests holder.new }
 {
-    let mut held = booth.hold(rt, holder);
+    booth.hold(rt, holder);
     for _ in 0..calls {
-        booth.call_held(holder, &mut held, 0, 1);
+        booth.call_held(holder, 0, 1);
     }
-    booth.give_back(holder, held);
+    booth.give_back(holder);
 }
 
 // Takes all turns of one thread.

@@ -3,4 +3,4 @@ use Rattle.booth_caller.specs.Counters.{Adds}
 use Rattle.trials_booth.proofs.holders.add_in_a_turn.Given as goal
 
 abbrev pub invariant-loop : goal.invariant-loop
-invariant-loop g l = HasTurn Adds l.fn.booth l.holder l.held
+invariant-loop g l = HasTurn Adds l.fn.booth l.holder

@@ -1,48 +1,40 @@
-use Rattle.std.proofs.Common.{rules, arith, ◌+◌, ◌<◌, ◌≤◌, ◌^◌, max, ap}
-use Rattle.std.proofs.Math.Nat.{le-max_right}
-use Rattle.abt_interleave.proofs.Prefixes.{extends-self}
+use Rattle.std.proofs.Common.{rules, ◌∷◌, Some, sym, ap, ◌∙◌}
+use Rattle.atomic_table.specs.Table.{rest}
 use Rattle.abt_booth.specs.Holders.{sight_of}
 use Rattle.abt_booth.specs.Seats.{opening_of}
 use Rattle.abt_booth.proofs.Histories.{allowed-after}
-use Rattle.abt_booth.proofs.Turns.{counts-more, sight-more, taken-more}
+use Rattle.abt_booth.proofs.Turns.{busy-more, reply-more, sight-more, taken-out}
 use Rattle.abt_booth.proofs.booth.Booth.ask.Goals as goal
 
-pub run-answer-requires : goal.run-answer-requires
-run-answer-requires g c =
-    let held = c.args.held.now in
-    allowed-after g.O.Object.does g.O.Object.allowed g.met.O.Object.keeps (opening_of c.args.self.now) (sight_of c.args.seat.now.me.0 held.lot) held.lot.object c.args.act c.requires.held.leads c.requires.act
+pub slot_mut-kept-requires : goal.slot_mut-kept-requires
+slot_mut-kept-requires g c = let turn = c.requires.turn in (search rules, (Some turn.0, turn.1 ∙ ap (λ z. (0, Some turn.0) ∷ z) (sym (ap rest turn.1))))
 
-pub overflow_add-held : goal.overflow_add-held
-overflow_add-held g c = let few = counts-more g.O.Object.does (opening_of c.args.self.now) (sight_of c.args.seat.now.me.0 c.args.held.now.lot) c.args.held.now c.requires.held in search rules
+pub answer-requires-clause-act : goal.answer-requires-clause-act
+answer-requires-clause-act g c =
+    let me = c.args.seat.now.me in
+    let opening = opening_of c.args.self.now in
+    let taken = taken-out g.O.Object.does opening me c.in-Some.lot c.requires.turn (c.slot_mut-kept.ensures.value ∙ ap (λ kept. (0, kept) ∷ rest me.1) c.in-Some.is) in
+    allowed-after g.O.Object.does g.O.Object.allowed g.met.O.Object.keeps opening (sight_of me) c.in-Some.lot.object c.args.act taken.leads c.requires.act
 
-pub returns-clause-held : goal.returns-clause-held
-returns-clause-held g c =
-    let held = c.args.held.now in
-    let stamp = c.max-greater.result + 1 in
-    let greatest = c.max-greater.ensures in
-    let later : held.lot.clock < stamp = omega (arith, le-max_right c.args.at held.lot.clock, greatest) in
-    let capped : stamp ≤ 2 ^ 62 = omega (arith, c.if-greater-eq-LAST_STAMP.false, c.requires.at, c.requires.held.capped, greatest) in
-    taken-more c.args.seat.now.me.0 held record { stamp = stamp; act = c.of-asked.result; answer = c.of.result } c.args.act c.run-answer.result c.run-answer.new.self c.replace-before.result c.one_more.result g.O.Object.does (opening_of c.args.self.now)
-    (c.one_more.ensures, c.replace-before.ensures.value, c.of-asked.ensures, c.of.ensures) c.requires.held c.run-answer.ensures later capped
+pub answer-requires-clause-clock : goal.answer-requires-clause-clock
+answer-requires-clause-clock g c =
+    let me = c.args.seat.now.me in
+    let taken = taken-out g.O.Object.does (opening_of c.args.self.now) me c.in-Some.lot c.requires.turn (c.slot_mut-kept.ensures.value ∙ ap (λ kept. (0, kept) ∷ rest me.1) c.in-Some.is) in taken.capped
 
-pub returns-clause-alone : goal.returns-clause-alone
-returns-clause-alone g c =
-    let stamp = c.max-greater.result + 1 in
-    sight-more c.args.seat.now.me.0 c.args.held.now record { stamp = stamp; act = c.of-asked.result; answer = c.of.result } c.args.act c.run-answer.result c.run-answer.new.self c.replace-before.result c.one_more.result
-    (c.one_more.ensures, c.replace-before.ensures.value, c.of-asked.ensures, c.of.ensures)
+pub returns-clause-turn : goal.returns-clause-turn
+returns-clause-turn g c =
+    let me = c.args.seat.now.me in
+    busy-more g.O.Object.does (opening_of c.args.self.now) me c.in-Some.lot c.answer.new.lot c.args.at c.args.act c.requires.turn (c.slot_mut-kept.ensures.value ∙ ap (λ kept. (0, kept) ∷ rest me.1) c.in-Some.is)
+    c.answer.result c.answer.ensures
 
 pub returns-clause-reply : goal.returns-clause-reply
 returns-clause-reply g c =
-    let held = c.args.held.now in
-    let stamp = c.max-greater.result + 1 in
-    let greatest = c.max-greater.ensures in
-    let met = sight_of c.args.seat.now.me.0 held.lot in
-    let taken = returns-clause-held g c in record {
-      met = met;
-      left = c.run-answer.new.self;
-      extends = extends-self c.args.seat.now.me.0.number met;
-      entered = returns-clause-alone g c;
-      legal = (taken.rises, taken.leads);
-      stamped = omega (arith, greatest, ap (max c.args.at) c.requires.held.clock);
-      capped = taken.capped;
-    }
+    let me = c.args.seat.now.me in
+    reply-more g.O.Object.does (opening_of c.args.self.now) me c.in-Some.lot c.answer.new.lot c.args.at c.args.act c.requires.turn (c.slot_mut-kept.ensures.value ∙ ap (λ kept. (0, kept) ∷ rest me.1) c.in-Some.is)
+    c.answer.result c.answer.ensures
+
+pub returns-clause-alone : goal.returns-clause-alone
+returns-clause-alone g c =
+    let me = c.args.seat.now.me in
+    sight-more g.O.Object.does (opening_of c.args.self.now) me c.in-Some.lot c.answer.new.lot c.args.at c.args.act c.requires.turn (c.slot_mut-kept.ensures.value ∙ ap (λ kept. (0, kept) ∷ rest me.1) c.in-Some.is)
+    c.answer.result c.answer.ensures

@@ -11,12 +11,11 @@ returns-clause-reply g c =
     let does = g.O.Object.does in
     let o = opening_of c.args.self.now in
     let s = c.args.seat.now.raw.me.0 in
-    let m = c.begin-held.new.seat.me.0 in
-    let before = sight_of m c.begin-held.result.lot in
-    let after = sight_of m c.ask-called.new.held.lot in
-    let same = ap (λ v. v.0.number) c.begin-held.ensures.view in
+    let before = sight_of c.begin.new.seat.me in
+    let after = sight_of c.ask-called.new.seat.me in
+    let same = ap (λ v. v.number) c.begin.ensures.view in
     subst (λ (l : List (Entry g.row.O-Act.Denot g.row.O-Answer.Denot)). IsReply does o s.number s.seen l c.args.at c.args.act c.ask-called.result) (sym (ap (λ v. v.0.seen) c.release.ensures.view))
-    (reply-earlier does o s.number s.seen before after c.args.at c.args.act c.ask-called.result c.begin-held.ensures.met
+    (reply-earlier does o s.number s.seen before after c.args.at c.args.act c.ask-called.result c.begin.ensures.met
     (subst (λ n. IsReply does o n before after c.args.at c.args.act c.ask-called.result) same c.ask-called.ensures.reply))
 
 pub returns-clause-grows : goal.returns-clause-grows

@@ -1,6 +1,5 @@
-use Rattle.std.proofs.Common.{rules, ℕ, subst}
+use Rattle.std.proofs.Common.{rules}
 use Rattle.abt_booth.proofs.Keeps.{takes-turn}
-use Rattle.abt_booth.specs.Rule.{Takes}
 use Rattle.abt_booth.proofs.booth.Booth.try_take.Goals as goal
 
 pub compare_exchange-requires : goal.compare_exchange-requires
@@ -9,7 +8,3 @@ compare_exchange-requires g c = (
   search rules,
   takes-turn g.O.Object.does c.args.self.now.table.shared.key.object.value c.args.self.now.table.shared.key.seats c.args.self.now.table.shared.table_id.slots c.args.seat.now.id c.args.seat.now.me c.peek-found.result c.if-found-eq0.true (search rules),
 )
-
-pub returns-then-compare_exchange-found-clause-turn : goal.returns-then-compare_exchange-found-clause-turn
-returns-then-compare_exchange-found-clause-turn g c =
-    subst (λ (x : ℕ). Takes g.O.Object.does c.args.seat.now.me x c.compare_exchange.new.seat.me) (search rules) (c.compare_exchange.ensures.2.0 (search rules))
