@@ -10,7 +10,7 @@ use Rattle.abt_unit.proofs.unit.Unit.TheLaws.TheKnot.{sync-Unit}
 use Rattle.abt_unit.proofs.Crosses.{Unit-send, Workload-sync}
 use Rattle.abt_chain.specs.contracts.chain.Chain as Chain
 use Rattle.abt_chain.proofs.Crosses.{Chain-send}
-use Rattle.abt_booth.proofs.Crosses.{Booth-field-sync, Booth-sync, Held-send, Holder-field-send, Seat-send}
+use Rattle.abt_booth.proofs.Crosses.{Booth-field-sync, Booth-sync, Holder-field-send, Seat-send}
 use Rattle.abt_commons.specs.contracts.acts.Act as Act
 use Rattle.abt_commons.specs.contracts.acts.Answer as Answer
 use Rattle.abt_commons.specs.contracts.shared.Shared as Shared
@@ -66,7 +66,6 @@ Hall-sync a R s =
 Turn-send : (a : NamedLft) → IsSend (Turn.the_row a)
 Turn-send a =
     let holder = Holder-field-send (One.the_row a) Act.the_row Answer.the_row OneObject.ghosts (One-send a) in
-    let held = Held-send (One.the_row a) Act.the_row Answer.the_row (One-send a) in
     search (sendable, crosses) depth 30
 
 pub SplitPass-send : (a : NamedLft) → IsSend (SplitPass.the_row a)

@@ -1,5 +1,5 @@
 -- Units that objects give out.
-use Rattle.std.proofs.Common.{◌≡◌, ℕ, zero, suc, ◌+◌, ◌<◌, ◌≤◌, true, false, List, [], ◌∷◌, ◌++◌, map, set, drop, length, slice_get, Option, Some, None, refl, sym, ◌∙◌, ap, ap₂, subst, arith, append-nil, append_assoc}
+use Rattle.std.proofs.Common.{◌≡◌, ◌==◌, ℕ, zero, suc, ◌+◌, ◌<◌, ◌≤◌, true, false, List, [], ◌∷◌, ◌++◌, map, set, drop, length, slice_get, Option, Some, None, refl, sym, ◌∙◌, ap, ap₂, subst, arith, append-nil, append_assoc, eqb-true}
 use Rattle.std.specs.List.{All, flat_map, range_with_len}
 use Rattle.std.proofs.lemmas.Grind.{flat_map-append}
 use Rattle.std.proofs.lemmas.List.{drop_all}
@@ -227,3 +227,8 @@ module _ (held : ObjectsValue) (many : length held.objects ≡ sites held.worklo
       ∙ ap₂ (λ a b. a ++ b)
       (split rows 0 (length W.pools) (length W.units) ∙ ap₂ (λ a b. a ++ b) pools (ap (λ n. flat_map rows (range_with_len n (length W.units))) e' ∙ desks))
       (ap (λ n. flat_map rows (range_with_len n (length W.objects))) e ∙ things)))
+
+-- without units there is nothing to show
+pub none-alike : (rows : List Row) (x : Shown) (us : List Owned) → (length us == 0) ≡ true → rows ≡ rows ++ rows_as x us
+none-alike rows x [] e = sym (append-nil rows)
+none-alike rows x (u ∷ us) e = let none : length (u ∷ us) ≡ 0 = eqb-true (length (u ∷ us)) 0 e in absurd (omega arith)

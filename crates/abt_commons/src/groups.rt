@@ -102,10 +102,13 @@ fn give_shared(
     }
 }
 
-// Appends one group.
+// Appends one group, if it has a unit.
 fn give_alike(shown: Shown, units: Chain, groups: &mut Vec<Group>) -> Result<(), Want>
     ensures { OnOk result (rows_in groups.new.items ≡ rows_in groups.old.items ++ rows_as shown units.units) }
 {
+    if units.is_empty() {
+        return Ok(());
+    }
     groups.push(Group { shown, units })?;
     Ok(())
 }

@@ -12,16 +12,16 @@ ghost use Rattle.abt_commons.specs.Turns.{IsTurnOf};
 
 use crate::acts::Act;
 use crate::one::One;
-use abt_booth::{Booth, Called, Held, Holder, Seat};
+use abt_booth::{Booth, Called, Holder, Seat};
 use std::marker::Model;
 use std::sync::Wait;
 
 /// The right of one stream to call one lock. It may keep the lock's turn between its calls: what is seen of it tells what the
-/// stream has seen of the lock, and nothing of that.
+/// stream has seen of the lock, and nothing of that. It takes one byte.
 #[derive(Drop)]
 pub struct Turn<'w> {
     holder: Holder<One<'w>>,
-    held: Option<Held<One<'w>>>,
+    kept: bool,
 }
 
 impl<'w> Model for Turn<'w> {
@@ -29,9 +29,9 @@ impl<'w> Model for Turn<'w> {
 
     ghost Value = { TurnValue };
 
-    ghost view = { λ t. turn_of t.holder t.held };
+    ghost view = { λ t. turn_of t.holder };
 
-    ghost invariant = { λ t. RestsOrKeeps t.holder t.held };
+    ghost invariant = { λ t. RestsOrKeeps t.holder t.kept };
 }
 
 impl<'w> Turn<'w> {
@@ -43,7 +43,7 @@ impl<'w> Turn<'w> {
     {
         Turn {
             holder: seat.into_holder(),
-            held: None,
+            kept: false,
         }
     }
 
@@ -54,9 +54,9 @@ impl<'w> Turn<'w> {
         ensures seen { seen_of result ≡ self.entry.seen }
         ensures booth { IsSeatOf booth.now result }
     {
-        let Turn { mut holder, held } = self;
-        if let Some(held) = held {
-            booth.give_back(&mut holder, held);
+        let Turn { mut holder, kept } = self;
+        if kept {
+            booth.give_back(&mut holder);
         }
         holder.into_seat()
     }
@@ -64,7 +64,7 @@ impl<'w> Turn<'w> {
     /// Whether it is kept.
     #[inline(always)]
     pub(crate) fn is_kept(&self) -> bool {
-        self.held.is_some()
+        self.kept
     }
 
     /// Gives the turn back, if it is kept.
@@ -72,8 +72,9 @@ impl<'w> Turn<'w> {
         requires { IsTurnOf booth.now self.old }
         ensures { self.new ≡ self.old }
     {
-        if let Some(held) = self.held.take() {
-            booth.give_back(&mut self.holder, held);
+        if self.kept {
+            booth.give_back(&mut self.holder);
+            self.kept = false;
         }
     }
 
@@ -85,16 +86,11 @@ impl<'w> Turn<'w> {
         ensures number { self.new.number ≡ self.old.number }
         ensures met { Extends self.old.number self.old.seen self.new.seen }
     {
-        if self.held.is_some() {
+        if self.kept {
             return true;
         }
-        match booth.try_hold(&mut self.holder) {
-            Some(held) => {
-                self.held = Some(held);
-                true
-            }
-            None => false,
-        }
+        self.kept = booth.try_hold(&mut self.holder);
+        self.kept
     }
 
     /// Asks the object, and keeps the turn. It waits for the turn, if that is not kept.
@@ -113,12 +109,11 @@ impl<'w> Turn<'w> {
         ensures number { self.new.number ≡ self.old.number }
         ensures reply { IsReply Does (opening_of booth.now) self.old.number self.old.seen self.new.seen at act result }
     {
-        if let Some(held) = &mut self.held {
-            return booth.call_held(&self.holder, held, at, act);
+        if self.kept {
+            return booth.call_held(&mut self.holder, at, act);
         }
-        let mut held = booth.hold(rt, &mut self.holder);
-        let called = booth.call_held(&self.holder, &mut held, at, act);
-        self.held = Some(held);
-        called
+        booth.hold(rt, &mut self.holder);
+        self.kept = true;
+        booth.call_held(&mut self.holder, at, act)
     }
 }
