@@ -1,11 +1,13 @@
 -- What the files of a question have, by their bytes if these are observable.
-use Rattle.std.specs.Prelude.{◌≡◌, ◌≤◌, ◌<◌, ◌⊎◌, ℕ, List, Option, IfSome, length}
+use Rattle.std.specs.Prelude.{◌≡◌, ◌≤◌, ◌<◌, ◌⊎◌, ℕ, List, [], Option, IfSome, length}
+use Rattle.abt_machine.specs.declared.program.Fault.{Fault}
 use Rattle.abt_machine.specs.declared.program.Fault.TheVariants as fault
 use Rattle.abt_machine.specs.Words.{Text}
 use Rattle.abt_shell.specs.declared.status.Stop.{Stop}
 use Rattle.abt_shell.specs.declared.status.Stop.TheVariants.{CannotRead, OutOfMemory}
 use Rattle.abt_shell.specs.declared.status.Wrong.{Wrong}
-use Rattle.abt_shell.specs.declared.status.Wrong.TheVariants.{Workload}
+use Rattle.abt_shell.specs.declared.status.Wrong.TheVariants.{Workload, Journal, Lives}
+use Rattle.abt_workload.specs.Hints.{line_hint}
 use Rattle.abt_compute.specs.Numbers.{IsNoNumberAt, Lists}
 
 -- the maximum number of bytes of each of two texts that are compared, and of a text that lists numbers
@@ -26,16 +28,22 @@ pub record HasNumbers (told : Option Text) (numbers : List ℕ) : Type 0 where
   pub has : Has told list_limit bytes
   pub lists : Lists bytes numbers
 
+-- a line has this fault, and this is said further
+abbrev pub IsWrong : Fault → Text → Wrong → Type 0
+IsWrong f further (Workload g said) = (g ≡ f) × (said.now ≡ further)
+IsWrong f further (Journal said) = ⊥
+IsWrong f further (Lives said) = ⊥
+
 -- a text is too long, which is said of line 0
 pub record IsTooLong (most : ℕ) (text : Text) (line : ℕ) (wrong : Wrong) : Type 0 where
   pub many : most < length text
   pub line_is : line ≡ 0
-  pub wrong_is : wrong ≡ Workload fault.Limit
+  pub wrong_is : IsWrong fault.Limit [] wrong
 
 -- the line is no number
 pub record IsWrongLine (text : Text) (line : ℕ) (wrong : Wrong) : Type 0 where
   pub no_number : IsNoNumberAt text line
-  pub wrong_is : wrong ≡ Workload fault.Number
+  pub wrong_is : IsWrong fault.Number (line_hint text line) wrong
 
 -- one of two files is too long
 abbrev pub AreBadTexts : Option Text → Option Text → ℕ → Wrong → Type 0

@@ -10,6 +10,7 @@ ghost use Rattle.abt_compute.specs.Numbers.{Lists, number_lines};
 use abt_lines::{end_line, push_number};
 use abt_machine::{Fault, Want};
 use abt_shell::{Stop, Wrong};
+use abt_workload::line_hint;
 use std::alloc::Global;
 
 // The place of the first line feed, or the length if there is none.
@@ -85,7 +86,8 @@ pub(crate) fn read_numbers(alloc: Global, text: &[u8]) -> Result<Vec<u64>, Stop>
     while !rest.is_empty() {
         let (line, after) = first_line(rest);
         let Some(n) = number(line) else {
-            return Err(Stop::BadLine(count + 1, Wrong::Workload(Fault::Number)));
+            let said = line_hint(text, count + 1);
+            return Err(Stop::BadLine(count + 1, Wrong::Workload(Fault::Number, said)));
         };
         keep(&mut numbers, n)?;
         rest = after;

@@ -17,7 +17,7 @@ const TEXT_LIMIT: usize = 65_536;
 const LIST_LIMIT: usize = 16_777_216;
 
 // A text that is too long.
-const TOO_LONG: Stop = Stop::BadLine(0, Wrong::Workload(Fault::Limit));
+const TOO_LONG: Stop = Stop::BadLine(0, Wrong::Workload(Fault::Limit, b""));
 
 /// The bytes of two files. Both are read before one is refused.
 ///

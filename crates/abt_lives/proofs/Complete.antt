@@ -28,7 +28,8 @@ use Rattle.abt_lives.specs.declared.status.Conclusion.{Conclusion}
 use Rattle.abt_lives.specs.declared.status.Conclusion.TheVariants.{Ended, Explained}
 use Rattle.abt_lives.specs.Asked.{AsksBeyond, AsksNothing, AsksRun, LacksLives, MayMake}
 use Rattle.abt_lives.specs.Call.{Call, IsAnswered, MissesFiles, MissesLives, PrintsLives, RanOnLives, RefusesSteps, TellsWorkload, TellsBoth, program}
-use Rattle.abt_lives.specs.Lives.{ReadsLives, RefusesLives}
+use Rattle.abt_workload.specs.Hints.{RefusesSo}
+use Rattle.abt_lives.specs.Lives.{ReadsLives, RefusesLives, RefusesLivesSo}
 use Rattle.abt_lives.specs.Status.{number_of_conclusion}
 use Rattle.abt_lives.proofs.Naming.{not-bad-command, of-first, of-second, one-number, one-workload, run-or-about, same-file}
 
@@ -53,12 +54,12 @@ runs (Stopped OutOfMemory) c W text lives h tells reads within still quiet = inr
 runs (Stopped BadWords) c W text lives h tells reads within still quiet = absurd (not-bad-command c.given tells.first.run within h.cause.why)
 runs (Stopped CannotRead) c W text lives h tells reads within still quiet = absurd (still h.cause.why.1)
 runs CannotWrite c W text lives h tells reads within still quiet = absurd (quiet h.faults)
-runs (Stopped (BadLine line (Workload f))) c W text lives h tells reads within still quiet =
-    absurd (reads-whole tells.first.bytes W line f tells.first.reads (of-first c W h.cause.why.run (λ bytes. Refuses bytes line f) tells.first h.cause.why.refuses))
-runs (Stopped (BadLine line Journal)) c W text lives h tells reads within still quiet = absurd h.cause.why
-runs (Stopped (BadLine line Lives)) c W text lives h tells reads within still quiet =
+runs (Stopped (BadLine line (Workload f said))) c W text lives h tells reads within still quiet =
+    absurd (reads-whole tells.first.bytes W line f tells.first.reads (of-first c W h.cause.why.run (λ bytes. RefusesSo bytes line f said.now) tells.first h.cause.why.refuses).0)
+runs (Stopped (BadLine line (Journal said))) c W text lives h tells reads within still quiet = absurd h.cause.why
+runs (Stopped (BadLine line (Lives said))) c W text lives h tells reads within still quiet =
     let same : h.cause.why.workload ≡ W = one-workload c W h.cause.why.run h.cause.why.workload tells.first h.cause.why.reads in
-    let refuses : RefusesLives h.cause.why.workload text line = of-second c W h.cause.why.run (λ bytes. RefusesLives h.cause.why.workload bytes line) text tells h.cause.why.refuses in
+    let refuses : RefusesLives h.cause.why.workload text line = (of-second c W h.cause.why.run (λ bytes. RefusesLivesSo h.cause.why.workload bytes line said.now) text tells h.cause.why.refuses).0 in
     absurd (not-bad W text lives line reads (subst (λ (V : Parts). RefusesLives V text line) same refuses))
 
 -- The second is wrong.
@@ -106,9 +107,9 @@ refuses-words : (s : Status Conclusion) (c : Call) → Holds (program c) c.left 
 refuses-words (Concluded k) c h none = absurd (asks-something k c h.text h.prints none)
 refuses-words CannotWrite c h none = absurd (asks-something h.conclusion c h.text h.prints none)
 refuses-words (Stopped BadWords) c h none = inl refl
-refuses-words (Stopped (BadLine line (Workload f))) c h none = absurd (none.0 h.cause.why.run.asked h.cause.why.run.says)
-refuses-words (Stopped (BadLine line Journal)) c h none = absurd h.cause.why
-refuses-words (Stopped (BadLine line Lives)) c h none = absurd (none.0 h.cause.why.run.asked h.cause.why.run.says)
+refuses-words (Stopped (BadLine line (Workload f said))) c h none = absurd (none.0 h.cause.why.run.asked h.cause.why.run.says)
+refuses-words (Stopped (BadLine line (Journal said))) c h none = absurd h.cause.why
+refuses-words (Stopped (BadLine line (Lives said))) c h none = absurd (none.0 h.cause.why.run.asked h.cause.why.run.says)
 refuses-words (Stopped CannotRead) c h none = absurd (none.0 h.cause.why.0.asked h.cause.why.0.says)
 refuses-words (Stopped OutOfMemory) c h none = inr refl
 
@@ -119,9 +120,9 @@ explains (Concluded (Ended o)) c a h asks quiet = absurd (run-or-about c.given.w
 explains (Concluded (Explained b)) c a h asks quiet = inl refl
 explains CannotWrite c a h asks quiet = absurd (quiet h.faults)
 explains (Stopped BadWords) c a h asks quiet = absurd (elim h.cause.why [ inl none ↦ none.1 a asks | inr beyond ↦ run-or-about c.given.words beyond.run a asks ])
-explains (Stopped (BadLine line (Workload f))) c a h asks quiet = absurd (run-or-about c.given.words h.cause.why.run a asks)
-explains (Stopped (BadLine line Journal)) c a h asks quiet = absurd h.cause.why
-explains (Stopped (BadLine line Lives)) c a h asks quiet = absurd (run-or-about c.given.words h.cause.why.run a asks)
+explains (Stopped (BadLine line (Workload f said))) c a h asks quiet = absurd (run-or-about c.given.words h.cause.why.run a asks)
+explains (Stopped (BadLine line (Journal said))) c a h asks quiet = absurd h.cause.why
+explains (Stopped (BadLine line (Lives said))) c a h asks quiet = absurd (run-or-about c.given.words h.cause.why.run a asks)
 explains (Stopped CannotRead) c a h asks quiet = absurd (run-or-about c.given.words h.cause.why.0 a asks)
 explains (Stopped OutOfMemory) c a h asks quiet = inr refl
 
@@ -161,10 +162,10 @@ pub lacks-lives : (c : Call) (W : Parts) (tells : TellsWorkload c W) (faults : �
 lacks-lives c W tells faults s within lacks = elim lacks [ inl read ↦ inl read | inr none ↦ by s none ] where
   by : (s : Stop) → HasNoRun (c.given.file tells.run.asked.workload) tells.run.asked.steps faults s → (s ≡ CannotRead) ⊎ (s ≡ OutOfMemory)
   by BadWords none = absurd (within (record { run = tells.run; exceeds = none }))
-  by (BadLine line (Workload f)) none =
-      absurd (reads-whole tells.bytes W line f tells.reads (of-observed (λ text. Refuses text line f) (c.given.file tells.run.asked.workload) tells.bytes tells.seen none))
-  by (BadLine line Journal) none = absurd none
-  by (BadLine line Lives) none = absurd none
+  by (BadLine line (Workload f said)) none =
+      absurd (reads-whole tells.bytes W line f tells.reads (of-observed (λ text. RefusesSo text line f said.now) (c.given.file tells.run.asked.workload) tells.bytes tells.seen none).0)
+  by (BadLine line (Journal said)) none = absurd none
+  by (BadLine line (Lives said)) none = absurd none
   by CannotRead none = inl refl
   by OutOfMemory none = inr refl
 

@@ -36,18 +36,18 @@ module _ (g : Given) (asked : LivesWords) (says : SaysLives g.words asked) where
         beyond exceeds = inr (record { run = run; exceeds = exceeds })
 
         bad : (line : ℕ) (w : Wrong) → IsNoWorkload (g.file asked.workload) line w → IsBadLine g line w
-        bad line (Workload f) h = record { run = run; refuses = h }
-        bad line Journal h = absurd h
-        bad line Lives h = absurd h
+        bad line (Workload f said) h = record { run = run; refuses = h }
+        bad line (Journal said) h = absurd h
+        bad line (Lives said) h = absurd h
 
   -- and so is why the second has no lives
   pub no-lives-stops : (s : Stop) (W : Parts) (told : Option Text) (a b c : ℕ) → IsReadFrom g asked.workload W → told ≡ g.file asked.lives → a ≤ b → b ≤ c → HasNoLives W told (b, c) s → StopsLives g (a, c) s
   no-lives-stops s W told a b c reads same first second =
       stops-file (IsBadCommand g) (AsksRun g.words) (IsNoLivesLine W told) (IsBadLine g) (b, c) (a, c) run bad (grew-later a b c first second) s where
         bad : (line : ℕ) (w : Wrong) → IsNoLivesLine W told line w → IsBadLine g line w
-        bad line (Workload f) h = absurd h
-        bad line Journal h = absurd h
-        bad line Lives h = record { run = run; workload = W; reads = reads; refuses = subst (λ (o : Option Text). IsNoLivesLine W o line Lives) same h }
+        bad line (Workload f said) h = absurd h
+        bad line (Journal said) h = absurd h
+        bad line (Lives said) h = record { run = run; workload = W; reads = reads; refuses = subst (λ (o : Option Text). IsNoLivesLine W o line (Lives said)) same h }
 
   -- or both were read, and this ran and is printed
   pub ran-as : (W : Parts) (told : Option Text) → told ≡ g.file asked.lives → IsReadFrom g asked.workload W → (steps : ℕ) → MayMake (g.file asked.workload) asked.steps steps → (read : List Life)

@@ -3,7 +3,7 @@ use Rattle.std.specs.Prelude.{◌≡◌, ◌≢◌, ◌≤◌, ◌⊎◌, ◌++�
 use Rattle.abt_machine.specs.declared.events.Event.{Event}
 use Rattle.abt_machine.specs.declared.events.Outcome.{Outcome}
 use Rattle.abt_machine.specs.declared.workload.Parts.{Parts}
-use Rattle.abt_machine.specs.Grammar.{Reads, Refuses}
+use Rattle.abt_machine.specs.Grammar.{Reads}
 use Rattle.abt_machine.specs.Outcomes.{steps_in}
 use Rattle.abt_machine.specs.Runs.{last_state}
 use Rattle.abt_machine.specs.Texts.{journal_text, report_text}
@@ -22,12 +22,13 @@ use Rattle.abt_shell.specs.Told.{Grew}
 use Rattle.abt_streams.specs.declared.life.Life.{Life}
 use Rattle.abt_streams.specs.declared.wave.Wave.{Wave}
 use Rattle.abt_streams.specs.Waves.{HasRunOn}
+use Rattle.abt_workload.specs.Hints.{RefusesSo}
 use Rattle.abt_words.specs.declared.itself.Topic.{Topic}
 use Rattle.abt_words.specs.About.{AsksAbout}
 use Rattle.abt_lives.specs.declared.status.Conclusion.{Conclusion}
 use Rattle.abt_lives.specs.declared.status.Conclusion.TheVariants.{Ended, Explained}
 use Rattle.abt_lives.specs.Asked.{AsksBeyond, AsksNothing, AsksRun, IsBadCommand, IsNamed, MayMake}
-use Rattle.abt_lives.specs.Lives.{ReadsLives, RefusesLives, waves_text}
+use Rattle.abt_lives.specs.Lives.{ReadsLives, RefusesLives, RefusesLivesSo, waves_text}
 use Rattle.abt_lives.specs.Status.{about_text, name, number_of_conclusion, usage}
 
 -- what the call was given, of which names it is observable that no file has them, what it left, and the journal that was returned
@@ -45,11 +46,11 @@ pub record NamesRefused (g : Given) (Is : Text → Type 0) : Type 0 where
   pub refuses : IfSome (g.file run.asked.workload) Is
 
 -- the bytes of the first, if they are seen, are the text of a workload, and those of the second are refused as its lives'
-pub record NamesBadLives (g : Given) (l : ℕ) : Type 0 where
+pub record NamesBadLives (g : Given) (l : ℕ) (said : Text) : Type 0 where
   pub run : AsksRun g.words
   pub workload : Parts
   pub reads : IsReadFrom g run.asked.workload workload
-  pub refuses : IfSome (g.file run.asked.lives) (λ bytes. RefusesLives workload bytes l)
+  pub refuses : IfSome (g.file run.asked.lives) (λ bytes. RefusesLivesSo workload bytes l said)
 
 -- What runs.
 
@@ -85,9 +86,9 @@ PrintsLives g J (Explained a) text = AsksAbout g.words a × (text ≡ about_text
 
 -- a line of a file that the words name has this wrong
 abbrev pub IsBadLine : Given → ℕ → Wrong → Type 0
-IsBadLine g line (Workload f) = NamesRefused g (λ bytes. Refuses bytes line f)
-IsBadLine g line Journal = ⊥
-IsBadLine g line Lives = NamesBadLives g line
+IsBadLine g line (Workload f said) = NamesRefused g (λ bytes. RefusesSo bytes line f said.now)
+IsBadLine g line (Journal said) = ⊥
+IsBadLine g line (Lives said) = NamesBadLives g line said.now
 
 -- by the words, the files, and the count of faults of reading before and afterwards
 abbrev pub StopsLives : Given → ℕ × ℕ → Stop → Type 0

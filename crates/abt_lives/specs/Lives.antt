@@ -6,6 +6,7 @@ use Rattle.abt_shell.specs.declared.status.Stop.{Stop}
 use Rattle.abt_shell.specs.declared.status.Wrong.{Wrong}
 use Rattle.abt_shell.specs.declared.status.Wrong.TheVariants.{Workload, Journal, Lives}
 use Rattle.abt_shell.specs.Fetched.{HasNot}
+use Rattle.abt_workload.specs.Hints.{line_hint}
 use Rattle.abt_streams.specs.declared.life.Life.{Life}
 use Rattle.abt_streams.specs.declared.wave.Wave.{Wave}
 use Rattle.abt_streams.specs.Lives.{AreLives}
@@ -25,11 +26,15 @@ pub record ReadsLives (W : Parts) (bytes : Text) (lives : List Life) : Type 0 wh
 abbrev pub RefusesLives : Parts → Text → ℕ → Type 0
 RefusesLives W bytes l = ((lives_limit < length bytes) × (l ≡ 0)) ⊎ ((length bytes ≤ lives_limit) × IsBadLifeAt W bytes l × IsNoLivesText W bytes)
 
+-- and this may be said further
+abbrev pub RefusesLivesSo : Parts → Text → ℕ → Text → Type 0
+RefusesLivesSo W bytes l said = RefusesLives W bytes l × (said ≡ line_hint bytes l)
+
 -- a line of a file, by its bytes if they are observable, has this wrong, which keeps it from being the text of lives of streams of W
 abbrev pub IsNoLivesLine : Parts → Option Text → ℕ → Wrong → Type 0
-IsNoLivesLine W told line (Workload f) = ⊥
-IsNoLivesLine W told line Journal = ⊥
-IsNoLivesLine W told line Lives = IfSome told (λ bytes. RefusesLives W bytes line)
+IsNoLivesLine W told line (Workload f said) = ⊥
+IsNoLivesLine W told line (Journal said) = ⊥
+IsNoLivesLine W told line (Lives said) = IfSome told (λ bytes. RefusesLivesSo W bytes line said.now)
 
 -- why the file has no lives
 abbrev pub HasNoLives : Parts → Option Text → ℕ × ℕ → Stop → Type 0

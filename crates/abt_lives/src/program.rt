@@ -30,6 +30,7 @@ use abt_source::{Files, Sink};
 use abt_streams::{Lives, LivesRun, read_lives, run_lives};
 use abt_words::{DEFAULT_STEPS, Topic, WordFault, about, lives_words};
 use abt_work::Work;
+use abt_workload::line_hint;
 use std::alloc::Global;
 use std::sync::Wait;
 use std::thread::Threads;
@@ -106,11 +107,13 @@ fn fetch_lives<F: Files>(
 {
     let bytes = bytes_of(alloc, file, files, LIVES_LIMIT)?;
     if bytes.len() > LIVES_LIMIT {
-        return Err(Stop::BadLine(0, Wrong::Lives));
+        return Err(Stop::BadLine(0, Wrong::Lives(b"")));
     }
     match read_lives(alloc, w, &bytes) {
         Ok(lives) => Ok(lives),
-        Err(TextFault::Bad { line }) => Err(Stop::BadLine(line, Wrong::Lives)),
+        Err(TextFault::Bad { line }) => {
+            Err(Stop::BadLine(line, Wrong::Lives(line_hint(&bytes, line))))
+        }
         Err(TextFault::Memory) => Err(Stop::OutOfMemory),
     }
 }

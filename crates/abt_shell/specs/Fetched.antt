@@ -1,7 +1,8 @@
 -- Why a call stops before its first write.
-use Rattle.std.specs.Prelude.{ℕ, Option, IfSome, ⊤}
+use Rattle.std.specs.Prelude.{◌≡◌, ℕ, Option, IfSome, ⊤}
 use Rattle.abt_machine.specs.Words.{Text}
 use Rattle.abt_report.specs.Journals.{IsNoJournalAt}
+use Rattle.abt_workload.specs.Hints.{line_hint}
 use Rattle.abt_shell.specs.Told.{Grew}
 use Rattle.abt_shell.specs.declared.status.Stop.{Stop}
 use Rattle.abt_shell.specs.declared.status.Stop.TheVariants.{BadWords, BadLine, CannotRead, OutOfMemory}
@@ -24,11 +25,15 @@ HasNot = StopsFor ⊥ ⊤
 abbrev pub Unread : ℕ × ℕ → Stop → Type 0
 Unread = HasNot (λ line w. ⊥)
 
+-- the line keeps the bytes from being a journal's text, and this may be said further
+abbrev pub IsNoJournalSo : Text → ℕ → Text → Type 0
+IsNoJournalSo bytes line said = IsNoJournalAt bytes line × (said ≡ line_hint bytes line)
+
 -- a line has this wrong, which keeps a file, by its bytes if they are observable, from being a journal's; line 0 says that they are too many
 abbrev pub IsNoJournalLine : Option Text → ℕ → Wrong → Type 0
-IsNoJournalLine told line (Workload f) = ⊥
-IsNoJournalLine told line Journal = IfSome told (λ bytes. IsNoJournalAt bytes line)
-IsNoJournalLine told line Lives = ⊥
+IsNoJournalLine told line (Workload f hint) = ⊥
+IsNoJournalLine told line (Journal hint) = IfSome told (λ bytes. IsNoJournalSo bytes line hint.now)
+IsNoJournalLine told line (Lives hint) = ⊥
 
 -- why the file has no journal
 abbrev pub HasNoJournal : Option Text → ℕ × ℕ → Stop → Type 0

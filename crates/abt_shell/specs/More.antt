@@ -4,10 +4,10 @@ use Rattle.abt_machine.specs.Words.{Text}
 use Rattle.abt_source.specs.declared.fault.Reason.{Reason}
 use Rattle.abt_source.specs.declared.fault.Reason.TheVariants as reason
 use Rattle.abt_shell.specs.declared.more.More.{More}
-use Rattle.abt_shell.specs.declared.more.More.TheVariants.{Nothing, Usage, File}
+use Rattle.abt_shell.specs.declared.more.More.TheVariants.{Nothing, Usage, File, Hint}
 use Rattle.abt_shell.specs.declared.status.Stop.{Stop}
 use Rattle.abt_shell.specs.declared.status.Stop.TheVariants.{BadWords, BadLine, CannotRead, OutOfMemory}
-use Rattle.abt_shell.specs.Status.{stop_text}
+use Rattle.abt_shell.specs.Status.{hint_of, stop_text}
 use Rattle.abt_shell.specs.Told.{IsTold}
 
 -- how a program is called
@@ -29,16 +29,18 @@ abbrev pub more_text : More → Text
 more_text Nothing = []
 more_text (Usage usage) = usage_text usage.now
 more_text (File name why) = file_text name.now why
+more_text (Hint line) = line.now
 
 -- what is said of the file that cannot be read, if it is known
 abbrev pub blame_text : Option (Text × Reason) → Text
 blame_text None = []
 blame_text (Some blame) = file_text blame.0 blame.1
 
--- what is said after the line of a stop: how the program is called after bad words, and which file cannot be read
+-- what is said after the line of a stop: how the program is called after bad words, what is said further of a line, and which file cannot be
+-- read
 abbrev pub more_after : Text → Option (Text × Reason) → Stop → Text
 more_after usage blame BadWords = usage_text usage
-more_after usage blame (BadLine line w) = []
+more_after usage blame (BadLine line w) = hint_of w
 more_after usage blame CannotRead = blame_text blame
 more_after usage blame OutOfMemory = []
 
@@ -49,7 +51,7 @@ IsBlame Names more = (file : Text) × Names file × ((why : Reason) × (more ≡
 -- what a program so called may say after the line of a stop, if it reads these files
 abbrev pub Adds : Text → (Text → Type 0) → Stop → Text → Type 0
 Adds usage Names BadWords more = more ≡ usage_text usage
-Adds usage Names (BadLine line w) more = more ≡ []
+Adds usage Names (BadLine line w) more = more ≡ hint_of w
 Adds usage Names CannotRead more = (more ≡ []) ⊎ IsBlame Names more
 Adds usage Names OutOfMemory more = more ≡ []
 

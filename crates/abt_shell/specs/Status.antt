@@ -59,9 +59,15 @@ fault_word fault.Missing = codes "missing"
 
 -- what is wrong with a line, in a word
 abbrev pub wrong_word : Wrong → Text
-wrong_word (wrong.Workload f) = fault_word f
-wrong_word wrong.Journal = codes "journal"
-wrong_word wrong.Lives = codes "life"
+wrong_word (wrong.Workload f hint) = fault_word f
+wrong_word (wrong.Journal hint) = codes "journal"
+wrong_word (wrong.Lives hint) = codes "life"
+
+-- and what is said further of it
+abbrev pub hint_of : Wrong → Text
+hint_of (wrong.Workload f hint) = hint.now
+hint_of (wrong.Journal hint) = hint.now
+hint_of (wrong.Lives hint) = hint.now
 
 -- what is said about a line, after the name of the program, and what is wrong with it
 abbrev pub line_text : ℕ → Text → Text

@@ -9,6 +9,7 @@ use crate::status::{Stop, Wrong};
 use abt_machine::Journal;
 use abt_report::{JOURNAL_LIMIT, TextFault, read_journal};
 use abt_source::{Files, NotFetched, read_all};
+use abt_workload::line_hint;
 use std::alloc::Global;
 
 /// The bytes of a file, or one more than the most if it has more.
@@ -57,11 +58,13 @@ pub fn fetch_journal<F: Files>(alloc: Global, file: &str, files: &mut F) -> Resu
 {
     let bytes = bytes_of(alloc, file, files, JOURNAL_LIMIT)?;
     if bytes.len() > JOURNAL_LIMIT {
-        return Err(Stop::BadLine(0, Wrong::Journal));
+        return Err(Stop::BadLine(0, Wrong::Journal(b"")));
     }
     match read_journal(alloc, &bytes) {
         Ok(journal) => Ok(journal),
-        Err(TextFault::Bad { line }) => Err(Stop::BadLine(line, Wrong::Journal)),
+        Err(TextFault::Bad { line }) => {
+            Err(Stop::BadLine(line, Wrong::Journal(line_hint(&bytes, line))))
+        }
         Err(TextFault::Memory) => Err(Stop::OutOfMemory),
     }
 }

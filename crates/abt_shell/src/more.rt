@@ -13,12 +13,14 @@ pub enum More<'a> {
     Nothing,
     /// How the program is called: one or more lines, each with its end.
     Usage(&'static [u8]),
+    /// What is said further of a line: a line with its end, or nothing.
+    Hint(&'static [u8]),
     /// The file that cannot be read, and why.
     File { name: &'a [u8], why: Reason },
 }
 
-/// What is said after the line of this stop: how the program is called, if the words are not a command, and the file that is
-/// to blame, if it is known and cannot be read.
+/// What is said after the line of this stop: how the program is called, if the words are not a command, what is said further of
+/// a line, and the file that is to blame, if it is known and cannot be read.
 pub fn more_of<'a>(stop: Stop, usage: &'static [u8], blamed: Option<Blamed<'a>>) -> More<'a>
     ensures { more_text result ≡ more_after usage.now (option_map blame_of blamed.entry) stop }
 {
@@ -31,7 +33,8 @@ pub fn more_of<'a>(stop: Stop, usage: &'static [u8], blamed: Option<Blamed<'a>>)
             },
             None => More::Nothing,
         },
-        Stop::BadLine(_, _) | Stop::OutOfMemory => More::Nothing,
+        Stop::BadLine(_, wrong) => More::Hint(wrong.hint()),
+        Stop::OutOfMemory => More::Nothing,
     }
 }
 

@@ -1,21 +1,32 @@
 //! How calls end: why a command was not carried out, exit statuses, and what is said about them.
 
 ghost use Rattle.std.specs.Prelude.{◌≡◌};
-ghost use Rattle.abt_shell.specs.Status.{IsFixed, fault_word, number_of_outcome, number_of_stop, said_text, stop_text, wrong_word};
+ghost use Rattle.abt_shell.specs.Status.{IsFixed, fault_word, hint_of, number_of_outcome, number_of_stop, said_text, stop_text, wrong_word};
 ghost use Rattle.abt_shell.specs.declared.status.Stop.TheVariants.{BadWords};
 
 use abt_machine::{Fault, Outcome, Want};
 use std::alloc::AllocError;
 
-/// What is wrong with a line of a file.
+/// What is wrong with a line of a file, and what is said further of it: a line with its end, or nothing.
 #[derive(Clone, Copy, Debug, PartialEq, Eq)]
 pub enum Wrong {
     /// It breaks a rule of workload texts.
-    Workload(Fault),
+    Workload(Fault, &'static [u8]),
     /// It is not the line of an event.
-    Journal,
+    Journal(&'static [u8]),
     /// It is not the line of a life.
-    Lives,
+    Lives(&'static [u8]),
+}
+
+impl Wrong {
+    // What is said further: a line with its end, or nothing.
+    pub(crate) fn hint(self) -> &'static [u8]
+        ensures { result.now ≡ hint_of self }
+    {
+        match self {
+            Wrong::Workload(_, hint) | Wrong::Journal(hint) | Wrong::Lives(hint) => hint,
+        }
+    }
 }
 
 /// Why a command was not carried out.
@@ -105,9 +116,9 @@ fn word_of(wrong: Wrong) -> &'static [u8]
     ensures { result.now ≡ wrong_word wrong }
 {
     match wrong {
-        Wrong::Workload(fault) => word_of_fault(fault),
-        Wrong::Journal => b"journal",
-        Wrong::Lives => b"life",
+        Wrong::Workload(fault, _) => word_of_fault(fault),
+        Wrong::Journal(_) => b"journal",
+        Wrong::Lives(_) => b"life",
     }
 }
 

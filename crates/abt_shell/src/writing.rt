@@ -53,6 +53,7 @@ fn write_more<E: Sink>(err: &mut E, more: More<'_>)
     match more {
         More::Nothing => write(err, b""),
         More::Usage(usage) => tell(b"usage: ", err, usage),
+        More::Hint(line) => write(err, line),
         More::File { name, why } => tell(name, err, line_of(why)),
     }
 }

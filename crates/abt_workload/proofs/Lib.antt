@@ -13,6 +13,7 @@ pub mod InOrder
 pub mod Keeping
 pub mod KeepingUnits
 pub mod LineEnds
+pub mod LineNumbers
 pub mod LineWords
 pub mod Naming
 pub mod NumberedLines

@@ -1,4 +1,5 @@
 pub mod Declarable
+pub mod Hints
 pub mod Judging
 pub mod Laws
 pub mod Reading

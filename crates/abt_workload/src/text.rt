@@ -72,8 +72,8 @@ fn word_end(line: &[u8]) -> usize
     line.len()
 }
 
-// The first word of a line, and what follows it, if the line has a word.
-fn first_word(line: &[u8]) -> Option<(&[u8], &[u8])>
+/// The first word of a line, and what follows it, if the line has a word.
+pub(crate) fn first_word(line: &[u8]) -> Option<(&[u8], &[u8])>
     ensures none { IfNone result (words_of line.now ≡ []) }
     ensures word { IfSome result (λ cut. words_of line.now ≡ cut.0.now ∷ words_of cut.1.now) }
     ensures shorter { IfSome result (λ cut. length cut.1.now < length line.now) }

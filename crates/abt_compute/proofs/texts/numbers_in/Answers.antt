@@ -1,4 +1,4 @@
-use Rattle.std.proofs.Common.{rules, ◌<◌, ◌≤◌, length}
+use Rattle.std.proofs.Common.{rules, ◌<◌, ◌≤◌, length, refl}
 use Rattle.abt_shell.proofs.Calls.{if-err, if-ok}
 use Rattle.abt_compute.specs.Files.{list_limit}
 use Rattle.abt_compute.proofs.Fetching.{has-whole, list-too-long, wrong-line-stops}
@@ -7,7 +7,7 @@ use Rattle.abt_compute.proofs.texts.numbers_in.Goals as goal
 pub returns-then-len-gt-LIST_LIMIT-clause-stop : goal.returns-then-len-gt-LIST_LIMIT-clause-stop
 returns-then-len-gt-LIST_LIMIT-clause-stop g c =
     let long : list_limit < length c.in_ok-bytes.bytes.items = search rules in
-    list-too-long _ c.in_ok-bytes.bytes.items c.in_ok-bytes.ensures.bytes long
+    list-too-long _ c.in_ok-bytes.bytes.items c.in_ok-bytes.ensures.bytes long _ (refl, refl)
 
 pub returns-clause-lists : goal.returns-clause-lists
 returns-clause-lists g c =

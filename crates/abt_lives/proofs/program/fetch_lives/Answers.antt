@@ -17,4 +17,4 @@ returns-in-Ok-clause-reads g c =
 pub returns-in-Err-Bad-clause-stop : goal.returns-in-Err-Bad-clause-stop
 returns-in-Err-Bad-clause-stop g c =
     seen-refuses c.args.w.now (g.F.Files.file c.args.files.now c.args.file.now) c.in_ok-bytes.bytes.items c.in-Err-Bad.field-0 c.in-Err-Bad.line _ c.in_ok-bytes.ensures.bytes (omega (arith, c.len.ensures, c.if-len-gt-LIVES_LIMIT.false))
-    c.in-Err-Bad.field-0-is c.in-Err-Bad.line-is (subst (λ (bytes : Text). IsLivesCause c.args.w.now bytes c.in-Err-Bad.field-0) c.deref.ensures.value c.in-Err-Bad.ensures.cause)
+    c.in-Err-Bad.field-0-is c.in-Err-Bad.line-is (subst (λ (bytes : Text). IsLivesCause c.args.w.now bytes c.in-Err-Bad.field-0) c.deref.ensures.value c.in-Err-Bad.ensures.cause) _ (rw c.deref-in-Err-Bad.ensures.value at c.line_hint.ensures)

@@ -1,12 +1,13 @@
-use Rattle.std.proofs.Common.{◌<◌, ◌≤◌, length, rules}
-use Rattle.abt_report.specs.Journals.{IsNoJournalAt, IsTextOf, journal_limit}
+use Rattle.std.proofs.Common.{◌<◌, ◌≤◌, [], length, refl, rules}
+use Rattle.abt_report.specs.Journals.{IsTextOf, journal_limit}
+use Rattle.abt_shell.specs.Fetched.{IsNoJournalSo}
 use Rattle.abt_shell.proofs.Fetched.{of-long, of-whole, wrong-line}
 use Rattle.abt_shell.proofs.fetching.fetch_journal.Goals as goal
 
 pub returns-then-len-gt-JOURNAL_LIMIT-clause-stop : goal.returns-then-len-gt-JOURNAL_LIMIT-clause-stop
 returns-then-len-gt-JOURNAL_LIMIT-clause-stop g c =
     let long : journal_limit < length c.in_ok-bytes.bytes.items = search rules in
-    of-long journal_limit (λ bytes. IsNoJournalAt bytes 0) _ c.in_ok-bytes.bytes.items c.in_ok-bytes.ensures.bytes long (λ xs more. more)
+    of-long journal_limit (λ bytes. IsNoJournalSo bytes 0 []) _ c.in_ok-bytes.bytes.items c.in_ok-bytes.ensures.bytes long (λ xs more. (more, refl))
 
 pub returns-in-Ok-clause-reads : goal.returns-in-Ok-clause-reads
 returns-in-Ok-clause-reads g c =
@@ -17,5 +18,5 @@ returns-in-Ok-clause-reads g c =
 pub returns-in-Err-Bad-clause-stop : goal.returns-in-Err-Bad-clause-stop
 returns-in-Err-Bad-clause-stop g c =
     let short : length c.in_ok-bytes.bytes.items ≤ journal_limit = search rules in
-    of-whole journal_limit (λ bytes. IsNoJournalAt bytes _) _ c.in_ok-bytes.bytes.items c.in_ok-bytes.ensures.bytes short
-    (wrong-line c.in_ok-bytes.bytes.items c.in-Err-Bad.field-0 c.in-Err-Bad.line _ short c.in-Err-Bad.field-0-is c.in-Err-Bad.line-is (rw c.deref.ensures.value at c.in-Err-Bad.ensures.cause))
+    of-whole journal_limit (λ bytes. IsNoJournalSo bytes _ _) _ c.in_ok-bytes.bytes.items c.in_ok-bytes.ensures.bytes short
+    (wrong-line c.in_ok-bytes.bytes.items c.in-Err-Bad.field-0 c.in-Err-Bad.line _ short c.in-Err-Bad.field-0-is c.in-Err-Bad.line-is (rw c.deref.ensures.value at c.in-Err-Bad.ensures.cause), rw c.deref-in-Err-Bad.ensures.value at c.line_hint.ensures)
