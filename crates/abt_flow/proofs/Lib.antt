@@ -3,6 +3,7 @@ pub mod Outputs
 mod Passing
 mod Plain
 mod Points
+mod Clearing
 mod Creating
 mod Finds
 mod Finishing

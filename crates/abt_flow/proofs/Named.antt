@@ -15,7 +15,7 @@ use Rattle.abt_laws.proofs.Options.{none≢some, some-injective}
 use Rattle.abt_flow.specs.declared.naming.Naming.{Naming}
 use Rattle.abt_flow.specs.declared.naming.Naming.TheVariants.{Sets, Creates}
 use Rattle.abt_flow.proofs.Marks.{marked-here, marked-still, was-marked}
-use Rattle.abt_flow.specs.Checks.{HasNamed, NamesOnce, Prior, named_at, named_by, named_from, names_in}
+use Rattle.abt_flow.specs.Checks.{HasNamed, Prior, named_at, named_by, named_from, names_in}
 
 -- What is named is declared.
 
@@ -53,23 +53,38 @@ prior-more : (v j u k : ℕ) → Prior v j u k → Prior v j u (k + 1)
 prior-more v j u k (inl l) = inl l
 prior-more v j u k (inr h) = inr (h.0, (let l = h.1 in omega arith))
 
-prior-cases : (v j u k : ℕ) → Prior v j u (k + 1) → Prior v j u k ⊎ ((v ≡ u) × (j ≡ k))
+pub prior-cases : (v j u k : ℕ) → Prior v j u (k + 1) → Prior v j u k ⊎ ((v ≡ u) × (j ≡ k))
 prior-cases v j u k (inl l) = inl (inl l)
 prior-cases v j u k (inr h) = elim (cases_eq j k) [ inl same ↦ inr (h.0, same) | inr other ↦ inl (inr (h.0, (let l = h.1 in omega arith))) ]
 
-never-prior : (v j u k : ℕ) → Prior v j u k → v ≡ u → j ≡ k → ⊥
+pub never-prior : (v j u k : ℕ) → Prior v j u k → v ≡ u → j ≡ k → ⊥
 never-prior v j u k (inl l) e f = absurd (omega arith)
 never-prior v j u k (inr h) e f = (let l = h.1 in absurd (omega arith))
+
+pub prior-prior : (w i v j u k : ℕ) → Prior w i v j → Prior v j u k → Prior w i u k
+prior-prior w i v j u k (inl l) (inl m) = inl (omega arith)
+prior-prior w i v j u k (inl l) (inr h) = inl (let e = h.0 in omega arith)
+prior-prior w i v j u k (inr h) (inl l) = inl (let e = h.0 in omega arith)
+prior-prior w i v j u k (inr h) (inr m) = inr (h.0 ∙ m.0, (let l = h.1 in let k = m.1 in omega arith))
 
 -- One more operation.
 
 module _ (W : Parts) (n : Naming) (u k : ℕ) (seen : List Bool) (has : HasNamed W n u k seen) where
-  -- one that names what is named
-  pub named-twice : (x : ℕ) → named_at W n u k ≡ Some x → slice_get seen x ≡ Some true → NamesOnce W n → ⊥
-  named-twice x here marked once =
-      let earlier : (v : ℕ) × (j : ℕ) × Prior v j u k × (named_at W n v j ≡ Some x) = has.from x marked in
-      let same : (earlier.0 ≡ u) × (earlier.1 ≡ k) = once earlier.0 u earlier.1 k x earlier.3 here in
-      never-prior earlier.0 earlier.1 u k earlier.2 same.0 same.1
+  -- one that names nothing
+  module _ (none : named_at W n u k ≡ None) where
+    names-none : (v j x : ℕ) → v ≡ u → j ≡ k → named_at W n v j ≡ Some x → ⊥
+    names-none v j x e f named = none≢some (sym none ∙ subst (λ i. named_at W n u i ≡ Some x) f (subst (λ w. named_at W n w j ≡ Some x) e named))
+
+    was-prior : (v j x : ℕ) → named_at W n v j ≡ Some x → Prior v j u (k + 1) → Prior v j u k
+    was-prior v j x named prior = elim (prior-cases v j u k prior) [ inl before ↦ before | inr now ↦ absurd (names-none v j x now.0 now.1 named) ]
+
+    pub named-past : HasNamed W n u (k + 1) seen
+    named-past = record {
+      all = has.all;
+      marked = λ v j x prior named. has.marked v j x (was-prior v j x named prior) named;
+      from = λ x e. (let earlier = has.from x e in (earlier.0, earlier.1, prior-more earlier.0 earlier.1 u k earlier.2, earlier.3));
+      once = λ v w j i x first second named also. has.once v w j i x (was-prior v j x named first) (was-prior w i x also second) named also;
+    }
 
   module _ (y : ℕ) (here : named_at W n u k ≡ Some y) (unmarked : get_or seen y false ≡ false) (below : y < length seen) where
     name-of : (v j x : ℕ) → v ≡ u → j ≡ k → named_at W n v j ≡ Some x → y ≡ x

@@ -1,28 +1,19 @@
 -- From operations that are plain to a confluent workload.
-use Rattle.std.proofs.Common.{◌≡◌, ℕ, ◌<◌, ◌≤◌, length, Option, Some, None, arith, ap}
-use Rattle.std.proofs.lemmas.Option.{slice_get_within}
+use Rattle.std.proofs.Common.{◌≡◌, ℕ, Option, Some, None, ap}
 use Rattle.std.specs.Prelude.{IfOk, Result, Ok, Err}
 use Rattle.abt_machine.specs.declared.numbers.PoolNo.{PoolNo}
 use Rattle.abt_machine.specs.declared.operations.Op.{Op}
 use Rattle.abt_machine.specs.declared.operations.Op.TheVariants as op
 use Rattle.abt_machine.specs.declared.workload.Parts.{Parts}
 use Rattle.abt_machine.specs.Numbers.{object_no, unit_no}
-use Rattle.abt_machine.specs.Workloads.{body_at, op_at, ops_of}
+use Rattle.abt_machine.specs.Workloads.{op_at}
 use Rattle.abt_laws.proofs.Options.{none≢some, some-injective}
 use Rattle.abt_flow.specs.declared.naming.Naming.TheVariants.{Sets, Creates}
-use Rattle.abt_flow.specs.Checks.{CreatesWell, IsPlainAt, IsPlainUnit, NamesOnce, named_from}
+use Rattle.abt_flow.specs.Checks.{CreatesWell, IsPlainAt, NamesOnce, named_from}
 use Rattle.abt_flow.specs.Confluent.{Confluent}
-use Rattle.abt_flow.proofs.Named.{op-unit}
-
--- if the operations that there are, are plain, all are
-pub plain-unit : (W : Parts) (u n : ℕ) → length (ops_of (body_at W u)) ≤ n → ((j : ℕ) → j < n → IsPlainAt W u j) → IsPlainUnit W u
-plain-unit W u n over each k o is = let l : k < length (ops_of (body_at W u)) = slice_get_within (ops_of (body_at W u)) k o is in each k (omega arith) o is
-
-pub plain-units : (W : Parts) (n : ℕ) → length W.units ≤ n → ((v : ℕ) → v < n → IsPlainUnit W v) → (u : ℕ) → IsPlainUnit W u
-plain-units W n over each u k o is = let l : u < length W.units = op-unit W u k o is in each u (omega arith) k o is
 
 -- plain operations, of which no two set one eventual or create one unit, make a confluent workload
-pub plain-confluent : (W : Parts) → ((u : ℕ) → IsPlainUnit W u) → NamesOnce W Sets → NamesOnce W Creates → Confluent W
+pub plain-confluent : (W : Parts) → ((u k : ℕ) → IsPlainAt W u k) → NamesOnce W Sets → NamesOnce W Creates → Confluent W
 plain-confluent W plain sets creates = record {
   ops = λ u k o is. (plain u k o is).0;
   sets_once = λ u v k j x a b. sets u v k j x.0 (ap (named_from Sets) a) (ap (named_from Sets) b);
@@ -37,7 +28,7 @@ creates-well : (W : Parts) → Confluent W → (u k : ℕ) (o : Op) → op_at W 
 creates-well W confluent u k (op.Create v p) is = (confluent.creates_later u k v p is, confluent.creates_open u k v p is)
 creates-well W confluent u k _ is = tt
 
-pub confluent-plain : (W : Parts) → Confluent W → (u : ℕ) → IsPlainUnit W u
+pub confluent-plain : (W : Parts) → Confluent W → (u k : ℕ) → IsPlainAt W u k
 confluent-plain W confluent u k o is = (confluent.ops u k o is, creates-well W confluent u k o is)
 
 -- the operation that names x by this naming

@@ -20,9 +20,6 @@ IsPlainOp W o = IsSettled (effect o) × CreatesWell W o
 abbrev pub IsPlainAt : Parts → ℕ → ℕ → Type 0
 IsPlainAt W u k = (o : Op) → op_at W u k ≡ Some o → IsPlainOp W o
 
-abbrev pub IsPlainUnit : Parts → ℕ → Type 0
-IsPlainUnit W u = (k : ℕ) → IsPlainAt W u k
-
 -- the eventual that an operation sets, or the unit that it creates
 abbrev pub named_by : Naming → Op → Option ℕ
 named_by Sets (op.EvSet x) = Some x.0
@@ -44,6 +41,14 @@ NamesOnce W n = (u v k j x : ℕ) → named_at W n u k ≡ Some x → named_at W
 -- operation j of unit v comes before operation k of unit u, in order of unit and then of position
 abbrev pub Prior : ℕ → ℕ → ℕ → ℕ → Type 0
 Prior v j u k = (v < u) ⊎ ((v ≡ u) × (j < k))
+
+-- operation k of unit u names a number that an operation before it names
+abbrev pub NamesAgain : Parts → Naming → ℕ → ℕ → Type 0
+NamesAgain W n u k = (x v j : ℕ) × (named_at W n u k ≡ Some x) × Prior v j u k × (named_at W n v j ≡ Some x)
+
+-- operation o at position k of unit u isn't plain, or it sets an eventual or creates a unit that an operation before it sets or creates
+abbrev pub Violates : Parts → ℕ → ℕ → Op → Type 0
+Violates W u k o = (IsPlainOp W o → ⊥) ⊎ NamesAgain W Sets u k ⊎ NamesAgain W Creates u k
 
 -- how many numbers may be named
 abbrev pub names_in : Parts → Naming → ℕ

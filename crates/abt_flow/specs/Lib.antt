@@ -6,3 +6,4 @@ pub mod Flow
 pub mod Laws
 pub mod Roles
 pub mod Tables
+pub mod Violations

@@ -11,6 +11,6 @@ mod reaching;
 mod role;
 mod table;
 
-pub use confluence::confluent;
+pub use confluence::{Violation, first_violation};
 pub use finding::{Flow, FlowRow, find_flow};
 pub use laws::{flow_is_one, flow_is_put_out, orderly_end, orderly_finish, outputs_are_flow};

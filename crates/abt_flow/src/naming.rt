@@ -1,8 +1,8 @@
-//! Whether no two operations set one eventual, or create one unit.
+//! What operations name, and whether an operation before them names it.
 
-ghost use Rattle.std.specs.Prelude.{◌+◌, ◌<◌, ◌≡◌, ◌↔◌, IfOk, IsTrue, MatchBool, length};
-ghost use Rattle.abt_machine.specs.Workloads.{body_at, ops_of};
-ghost use Rattle.abt_flow.specs.Checks.{HasNamed, NamesOnce, named_by, names_in};
+ghost use Rattle.std.specs.Prelude.{◌+◌, ◌<◌, ◌≡◌, IfOk, MatchBool, Some, length};
+ghost use Rattle.abt_machine.specs.Workloads.{body_at, op_at, ops_of};
+ghost use Rattle.abt_flow.specs.Checks.{HasNamed, NamesAgain, named_by, names_in};
 
 use crate::role::Role;
 use abt_machine::{Op, UnitNo, Want, Workload};
@@ -47,14 +47,19 @@ pub(crate) fn ops_count(w: &Workload, u: UnitNo) -> u32
 }
 
 // Marks what an operation names, and says whether it wasn't marked.
-fn mark(w: &Workload, naming: Naming, u: UnitNo, k: u32, seen: &mut [bool]) -> bool
+pub(crate) fn mark(
+    w: &Workload,
+    naming: Naming,
+    u: UnitNo,
+    k: u32,
+    op: Op,
+    seen: &mut [bool],
+) -> bool
     requires unit { u.0 < length w.now.units }
+    requires at { op_at w.now u.0 k ≡ Some op }
     requires named { HasNamed w.now naming u.0 k seen.old }
-    ensures { MatchBool result (HasNamed w.now naming u.0 (k + 1) seen.new) (NamesOnce w.now naming → ⊥) }
+    ensures { MatchBool result (HasNamed w.now naming u.0 (k + 1) seen.new) (NamesAgain w.now naming u.0 k) }
 {
-    let Some(op) = w.op(u, k) else {
-        return true;
-    };
     let Some(x) = naming.of(op) else {
         return true;
     };
@@ -67,29 +72,9 @@ fn mark(w: &Workload, naming: Naming, u: UnitNo, k: u32, seen: &mut [bool]) -> b
     true
 }
 
-// Marks what a unit's operations name, and says whether nothing of it was marked.
-fn mark_unit(w: &Workload, naming: Naming, u: UnitNo, seen: &mut [bool]) -> bool
-    requires unit { u.0 < length w.now.units }
-    requires named { HasNamed w.now naming u.0 0 seen.old }
-    ensures { MatchBool result (HasNamed w.now naming (u.0 + 1) 0 seen.new) (NamesOnce w.now naming → ⊥) }
+// A table in which nothing is marked.
+pub(crate) fn none_named(alloc: Global, w: &Workload, naming: Naming) -> Result<Vec<bool>, Want>
+    ensures { IfOk result (λ seen. HasNamed w.now naming 0 0 seen.items) }
 {
-    for k in 0..ops_count(w, u) {
-        if !mark(w, naming, u, k, seen) {
-            return false;
-        }
-    }
-    true
-}
-
-// Whether no two operations name one number.
-pub(crate) fn names_once(alloc: Global, w: &Workload, naming: Naming) -> Result<bool, Want>
-    ensures { IfOk result (λ once. IsTrue once ↔ NamesOnce w.now naming) }
-{
-    let mut seen = vec![in alloc; false; naming.count(w) as usize]?;
-    for u in 0..w.units() {
-        if !mark_unit(w, naming, UnitNo(u), &mut seen) {
-            return Ok(false);
-        }
-    }
-    Ok(true)
+    Ok(vec![in alloc; false; naming.count(w) as usize]?)
 }

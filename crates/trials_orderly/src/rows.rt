@@ -1,6 +1,6 @@
 //! Worked rows: small workloads, and whether each is orderly.
 
-use abt_flow::confluent;
+use abt_flow::first_violation;
 use abt_machine::Workload;
 use abt_orderly::is_orderly;
 use abt_workload::read;
@@ -89,7 +89,7 @@ fn push_all(text: &mut String, parts: &[&str]) -> Result<(), AllocError> {
 
 // Whether the workload is confluent, and is orderly or not, as is wanted.
 fn is_as_wanted(alloc: Global, w: &Workload, wanted: bool) -> Result<bool, Fail> {
-    if !confluent(alloc, w)? {
+    if first_violation(alloc, w)?.is_some() {
         return Ok(false);
     }
     Ok(is_orderly(alloc, w)? == wanted)

@@ -1,6 +1,6 @@
 //! Runs on threads beside the flows of their workloads.
 
-use abt_flow::{Flow, confluent, find_flow};
+use abt_flow::{Flow, find_flow, first_violation};
 use abt_machine::{Piece, Want, Workload};
 use abt_order::StoredOrder;
 use abt_report::Picture;
@@ -56,12 +56,11 @@ fn chains(alloc: Global) -> Result<Workload, Fail> {
 // The flow of a workload, if that is confluent and has one.
 #[tactic(auto, using(crate::proofs::Storing::stores_calls))]
 fn flow_of(alloc: Global, w: &Workload) -> Result<Option<Flow>, Want> {
-    if confluent(alloc, w)? {
-        w.known();
-        find_flow(alloc, w, &AnyWork)
-    } else {
-        Ok(None)
+    if first_violation(alloc, w)?.is_some() {
+        return Ok(None);
     }
+    w.known();
+    find_flow(alloc, w, &AnyWork)
 }
 
 // Whether there is a row for each unit, and that of the last is the length of its chain.
