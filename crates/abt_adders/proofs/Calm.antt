@@ -1,6 +1,7 @@
 -- No unit is asked anything, and none ends itself.
-use Rattle.std.proofs.Common.{◌≡◌, ℕ, ◌≤◌, false, List, [], ◌∷◌, length}
+use Rattle.std.proofs.Common.{◌≡◌, ℕ, ◌≤◌, false, List, [], ◌∷◌, length, sym}
 use Rattle.abt_machine.specs.declared.events.Cause.{Cause}
+use Rattle.abt_machine.specs.declared.events.Cause.TheVariants as cause
 use Rattle.abt_machine.specs.declared.operations.Body.{Body}
 use Rattle.abt_machine.specs.declared.workload.Parts.{Parts}
 use Rattle.abt_machine.specs.Changes.{Change, changed}
@@ -43,3 +44,10 @@ end-after-all W s m b k c =
     due_of_unit-cases W s k (λ m b d. d ≡ EndDue c → IsCalm m → is_sched b ≡ false → length (ops_of b) ≤ k)
     (λ b h calm no. absurd calm) (λ b h calm no. absurd calm) (λ g h calm no. absurd cc) (λ g h calm no. absurd cc) (λ g h calm no. absurd cc)
     (λ m b program more h calm no. absurd cc) (λ m b program over h calm no. over) m b
+
+-- and that is why it ends
+pub end-done : (W : Parts) (s : ℕ) (m : Mark) (b : Body) (k : ℕ) (c : Cause) → due_of_unit W s m b k ≡ EndDue c → IsCalm m → is_sched b ≡ false → c ≡ cause.Done
+end-done W s m b k c =
+    due_of_unit-cases W s k (λ m b d. d ≡ EndDue c → IsCalm m → is_sched b ≡ false → c ≡ cause.Done)
+    (λ b h calm no. absurd calm) (λ b h calm no. absurd calm) (λ g h calm no. absurd cc) (λ g h calm no. absurd cc) (λ g h calm no. absurd cc)
+    (λ m b program more h calm no. absurd cc) (λ m b program over h calm no. let e : cause.Done ≡ c = cc in sym e) m b

@@ -1,10 +1,12 @@
 pub mod AdderSteps
 pub mod Calm
+pub mod Causes
 pub mod Events
 pub mod FirstSteps
 pub mod Going
 pub mod Moving
 pub mod Programs
+pub mod Reports
 pub mod Runs
 pub mod Stages
 pub mod Steps

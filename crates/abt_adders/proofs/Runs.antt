@@ -3,6 +3,7 @@ use Rattle.std.proofs.Common.{◌≡◌, ℕ, zero, suc, ◌<◌, ◌≤◌, ◌
 use Rattle.std.specs.Prelude.{IsSome}
 use Rattle.std.proofs.lemmas.Bool.{cases_lt, true≢false}
 use Rattle.std.proofs.lemmas.List.Sums.{sum_by-cons}
+use Rattle.abt_machine.specs.declared.events.Cause.TheVariants as cause
 use Rattle.abt_machine.specs.declared.events.Event.{Event}
 use Rattle.abt_machine.specs.declared.events.Outcome.TheVariants as outcome
 use Rattle.abt_machine.specs.declared.events.Place.{Place}
@@ -33,6 +34,7 @@ use Rattle.abt_bounds.proofs.Budgets.{steps-bound-budgets}
 use Rattle.abt_generate.specs.Generated.{generated}
 use Rattle.abt_generate.proofs.GeneratedParts.{IsValid-generated}
 use Rattle.abt_adders.specs.Laws.{AdderRuns, AddersAreNotStuck, AddersFinish, adder_steps}
+use Rattle.abt_adders.proofs.Causes.{IsDone, runs-done}
 use Rattle.abt_adders.proofs.Events.{event-adds, steps_after}
 use Rattle.abt_adders.proofs.Going.{Adds, stages}
 use Rattle.abt_adders.proofs.Programs.{adder-count, first-count, orders-stored, simple, some-stream, start-adder, start-first, unit-count, visits}
@@ -94,6 +96,23 @@ adder-over p v m c place.Unborn over l h = let early : p < v = h.0 in absurd (om
 adder-over p v m c (place.Ended e) over l h = h.1
 adder-over p v m c _ over l h = absurd over
 
+-- so each was done
+over-done : (pl : Place) → IsOver pl → (pl ≡ place.Unborn → ⊥) → IsDone pl → pl ≡ place.Ended cause.Done
+over-done place.Unborn over born done = absurd (born refl)
+over-done (place.Ended c) over born done = ap place.Ended done
+over-done _ over born done = absurd over
+
+first-born : (n : ℕ) (m : Mutex) (c : Carried) (pl : Place) → FirstAt n m c (stage pl) → pl ≡ place.Unborn → ⊥
+first-born n m c pl h e = subst (λ x. FirstAt n m c (stage x)) e h
+
+adder-born : (p v : ℕ) (m : Mutex) (c : Carried) (pl : Place) → v ≤ p → AdderAt p m v c (stage pl) → pl ≡ place.Unborn → ⊥
+adder-born p v m c pl l h e = let early : p < v = (subst (λ x. AdderAt p m v c (stage x)) e h).0 in absurd (omega arith)
+
+module _ (n t : ℕ) (S : State) (adds : Adds n t S) where
+  born : (v : ℕ) → v ≤ n → v ≤ (S.carried 0).position → S.place v ≡ place.Unborn → ⊥
+  born zero most l e = first-born n (S.mutex 0) (S.carried 0) (S.place 0) adds.adding.first e
+  born (suc v) most l e = adder-born (S.carried 0).position (suc v) (S.mutex 0) (S.carried (suc v)) (S.place (suc v)) l (adds.adding.adders (suc v) (omega arith) most) e
+
 pub adder-runs : (n : ℕ) (Z : Stored) → AdderRuns n Z
 adder-runs n Z few J run ended =
     let S : State = last_state (generated n) J in
@@ -103,7 +122,13 @@ adder-runs n Z few J run ended =
     let six : all_steps n S.carried ≡ (S.carried 0).position + n * 6 =
     sum-first (λ v. (S.carried v).position) 6 n (λ v some most. adder-over (S.carried 0).position v (S.mutex 0) (S.carried v) (S.place v) (ended v) (omega arith) (adds.adding.adders v some most)) in
     let count : steps_in J ≡ all_steps n S.carried = adds.adding.steps in
-    record { steps = omega arith; sum = first.2; silent = adds.adding.silent }
+    record {
+      steps = omega arith;
+      sum = first.2;
+      silent = adds.adding.silent;
+      done = λ u most.
+          over-done (S.place u) (ended u) (born n (steps_in J) S adds u most (omega arith)) (runs-done n few Z u (omega (arith, unit-count n)) J (starts n) run);
+    }
 
 -- If nothing is left to do.
 

@@ -1,9 +1,11 @@
 -- What the workload of n adders is worth, whatever the schedule. Z is what is stored beside it.
 use Rattle.std.specs.Prelude.{ℕ, suc, ◌≡◌, ◌<◌, ◌≤◌, ◌+◌, ◌*◌, ◌/◌, List, [], ◌∷◌}
+use Rattle.abt_machine.specs.declared.events.Cause.TheVariants as cause
 use Rattle.abt_machine.specs.declared.events.Event.{Event}
 use Rattle.abt_machine.specs.declared.events.Outcome.{Outcome}
 use Rattle.abt_machine.specs.declared.events.Outcome.TheVariants as outcome
 use Rattle.abt_machine.specs.declared.events.Piece.TheVariants as piece
+use Rattle.abt_machine.specs.declared.events.Place.TheVariants as place
 use Rattle.abt_machine.specs.Limits.{adder_limit}
 use Rattle.abt_machine.specs.Outcomes.{AllEnded, EndsAs, Quiet, steps_in}
 use Rattle.abt_machine.specs.Runs.{Run, last_state}
@@ -25,6 +27,8 @@ pub record IsWorth (n : ℕ) (J : List Event) : Type 0 where
   pub sum : ((last_state (generated n) J).carried 0).output ≡ piece.Number (sum_to n) ∷ []
   -- no other unit has put out anything
   pub silent : (v : ℕ) → 0 < v → ((last_state (generated n) J).carried v).output ≡ []
+  -- each unit was done: none was asked to end, kept out of a pool, or ended itself
+  pub done : (u : ℕ) → u ≤ n → (last_state (generated n) J).place u ≡ place.Ended cause.Done
 
 -- once every unit has ended
 abbrev pub AdderRuns : ℕ → Stored → Type 0

@@ -3,4 +3,4 @@
 
 mod laws;
 
-pub use laws::{adder_runs, adders_are_not_stuck, adders_finish};
+pub use laws::{adder_runs, adders_are_not_stuck, adders_finish, adders_report};

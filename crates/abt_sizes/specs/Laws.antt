@@ -70,8 +70,11 @@ abbrev pub EventsAreFew : Parts → Stored → Type 0
 EventsAreFew W Z = IsValid W → OrdersStored W Z.orders → (J : List Event) → Run W Z J → events_in J ≤ 4 * steps_in J + lives_begun W J + 3 * started W + 2 * (scheds_begun W J + scheds_started W)
 
 -- so at most 7 for each step, and 5 for each unit with a start
+abbrev pub IsSmall : Parts → List Event → Type 0
+IsSmall W J = events_in J ≤ 7 * steps_in J + 5 * started W
+
 abbrev pub RunsAreSmall : Parts → Stored → Type 0
-RunsAreSmall W Z = IsValid W → OrdersStored W Z.orders → (J : List Event) → Run W Z J → events_in J ≤ 7 * steps_in J + 5 * started W
+RunsAreSmall W Z = IsValid W → OrdersStored W Z.orders → (J : List Event) → Run W Z J → IsSmall W J
 
 -- without revivals each operation is one step at most, so the workload alone bounds its runs
 abbrev pub RunsAreBounded : Parts → Stored → Type 0
