@@ -55,19 +55,19 @@ pub(crate) static REFUSED: [(&str, &[u8], &str); 15] = [
     (
         ONE_POOL_OF_TWO,
         b"many 0 2 ult at 0\nend\n",
-        "abtrun: line 6: shape\n",
+        "abtrun: line 6: shape\na line of this form must not stand here\n",
     ),
     // repeat of repeat
     (
         ONE_POOL_OF_TWO,
         b"units 1\nunit 0 ult at 0\nrepeat 2 repeat 2 print\nend\n",
-        "abtrun: line 8: shape\n",
+        "abtrun: line 8: shape\nform: repeat N OP\n",
     ),
     // repeat before any unit
     (
         ONE_POOL_OF_TWO,
         b"units 1\nrepeat 2 print\nend\n",
-        "abtrun: line 7: shape\n",
+        "abtrun: line 7: shape\na line of this form must not stand here\n",
     ),
     // repeat of no number
     (

@@ -55,7 +55,7 @@ pub(crate) static REFUSALS: [Refusal; 25] = [
         "",
         b"abt 1\nstreams 1\r\npool 0 fifo mpmc\nsched 0 prio 0\nstream 0 main 0\nunits 1\nunit 0 ult at 0\nsay hi\nend\n",
         3,
-        "abtrun: line 2: shape\n",
+        "abtrun: line 2: shape\nthe line ends with a carriage return\n",
     ),
     // not utf8
     (

@@ -532,14 +532,14 @@ pub(crate) static FLOWS: [Row<'static>; 7] = [
     Row {
         lines: b"object 0 mutex\nunits 2\nunit 0 ult at 0\nlock 0\nyield\nunlock 0\nunit 1 ult at 0\ntrylock 0\nunlock 0\nend\n",
         status: 1,
-        out: "not confluent\n",
+        out: "not confluent\nunit 0 operation 0: lock 0\n",
         ..FLOW
     },
     // exits
     Row {
         lines: b"units 1\nunit 0 ult at 0\nsay a\nexit\nend\n",
         status: 1,
-        out: "not confluent\n",
+        out: "not confluent\nunit 0 operation 1: exit\n",
         ..FLOW
     },
     // refused

@@ -32,6 +32,7 @@ use Rattle.abt_words.specs.declared.commands.Shows.{Shows}
 use Rattle.abt_words.specs.declared.commands.Shows.TheVariants as show
 use Rattle.abt_words.specs.Commands.{Says}
 use Rattle.abt_words.proofs.OneCommand.{one-command}
+use Rattle.abt_workload.specs.Hints.{RefusesSo}
 use Rattle.abt_workload.proofs.RoundTrip.{only-valid}
 use Rattle.abt_report.specs.Journals.{IsNoJournalAt, IsTextOf}
 use Rattle.abt_report.proofs.Limits.{not-both}
@@ -41,7 +42,8 @@ use Rattle.abt_shell.specs.declared.status.Wrong.TheVariants.{Workload, Journal,
 use Rattle.abt_shell.specs.Calls.{EndsBy, HasReadFault, Holds, IsStill}
 use Rattle.abt_shell.specs.Status.{Status, Concluded, Stopped, CannotWrite, number_of, number_of_outcome}
 use Rattle.abt_shell.specs.Told.{Grew}
-use Rattle.abt_shell.proofs.Calls.{reads-well, writes-well}
+use Rattle.abt_shell.proofs.Calls.{if-some, reads-well, writes-well}
+use Rattle.abt_shell.specs.Fetched.{IsNoJournalSo}
 use Rattle.abt_shell.proofs.Fetched.{of-observed}
 use Rattle.abt_run.specs.Call.{Call, Decides, HasEnded, IsAnswered, IsOfRun, JudgesBy, MissesFiles, MissesJournals, RefusesSteps, RunsKnown, program}
 use Rattle.abt_run.specs.Given.{Compares, Given, IsReadFrom, SaysNothing, Tells, workload_file}
@@ -53,6 +55,7 @@ use Rattle.abt_run.specs.declared.keeping.Keep.{Keep}
 use Rattle.abt_run.specs.Steps.{AsksBeyond, LetsStreams, MayMake}
 use Rattle.abt_run.specs.declared.status.Conclusion.{Conclusion}
 use Rattle.abt_run.specs.declared.status.Conclusion.TheVariants.{Ended, Judged, Ends, Followed, Strays, Flows, NotConfluent, Undefined, Finishes, Sticks, GoesOn, Unexplored, Helps, NamesVersion}
+use Rattle.abt_run.proofs.Adding.{adds-up}
 use Rattle.abt_run.proofs.Outputs.{run-ended, run-is-run}
 use Rattle.abt_run.proofs.Preparing.{none-is, some-is}
 use Rattle.abt_run.proofs.Stepping.{check-asks-none, flow-asks-none, same-number, same-steps}
@@ -63,6 +66,10 @@ use Rattle.abt_run.proofs.Texts.{one-journal}
 -- a workload's text is not refused
 pub reads-whole : (bytes : Text) (W : Parts) (line : ℕ) (f : Fault) → Reads bytes W → Refuses bytes line f → ⊥
 reads-whole bytes W line f reads refuses = let none = reads.faultless line in let some = refuses.first in cc
+
+-- what may be said further keeps nothing from being refused
+pub refuses-also : (told : Option Text) (line : ℕ) (f : Fault) (said : Text) → IfSome told (λ bytes. RefusesSo bytes line f said) → IfSome told (λ bytes. Refuses bytes line f)
+refuses-also told line f said = if-some told (λ bytes. RefusesSo bytes line f said) (λ bytes. Refuses bytes line f) (λ bytes so. so.0)
 
 module _ (g : Given) (file : Text) where
   -- a text is that of one workload
@@ -93,9 +100,9 @@ pub lacks-second : (told : Option Text) (bytes : Text) (W : Parts) (faults : ℕ
 lacks-second told bytes W faults s seen reads lacks = elim lacks [ inl read ↦ inl read | inr none ↦ by s none ] where
   by : (s : Stop) → HasNoWorkload told faults s → (s ≡ CannotRead) ⊎ (s ≡ OutOfMemory)
   by BadWords none = absurd none
-  by (BadLine line (Workload f)) none = absurd (reads-whole bytes W line f reads (of-observed (λ text. Refuses text line f) told bytes seen none))
-  by (BadLine line Journal) none = absurd none
-  by (BadLine line Lives) none = absurd none
+  by (BadLine line (Workload f said)) none = absurd (reads-whole bytes W line f reads (of-observed (λ text. Refuses text line f) told bytes seen (refuses-also told line f said.now none)))
+  by (BadLine line (Journal said)) none = absurd none
+  by (BadLine line (Lives said)) none = absurd none
   by CannotRead none = inl refl
   by OutOfMemory none = inr refl
 
@@ -326,13 +333,13 @@ not-bad-words g d says within (inr beyond) = within beyond
 runs : (s : Status Conclusion) (c : Call) (d : Command) (W : Parts) → Holds (program c) c.left s → Says c.given.words d → RunsKnown d c.given W → (AsksBeyond c.given → ⊥) → IsStill c.left → IsOfRun (number_of number_of_conclusion s) ⊎ (number_of number_of_conclusion s ≡ 7)
 runs (Concluded k) c d W h says known within still = inl (runs-concluded k c h.text d W h.prints says known)
 runs (Stopped BadWords) c d W h says known within still = absurd (not-bad-words c.given d says within h.cause.why)
-runs (Stopped (BadLine line (Workload f))) c d W h says known within still =
+runs (Stopped (BadLine line (Workload f said))) c d W h says known within still =
     let named = h.cause.why.named in
     let same = one-command c.given.words named.command d named.says says in
-    absurd (runs-not-refused c.given d named.file W line f known (ap workload_file (sym same) ∙ named.names) h.cause.why.is)
-runs (Stopped (BadLine line Journal)) c d W h says known within still =
+    absurd (runs-not-refused c.given d named.file W line f known (ap workload_file (sym same) ∙ named.names) (refuses-also _ line f said.now h.cause.why.is))
+runs (Stopped (BadLine line (Journal said))) c d W h says known within still =
     absurd (subst (λ (x : Command). RunsKnown x c.given W) (one-command c.given.words d _ says h.cause.why.1.says) known)
-runs (Stopped (BadLine line Lives)) c d W h says known within still = absurd h.cause.why
+runs (Stopped (BadLine line (Lives said))) c d W h says known within still = absurd h.cause.why
 runs (Stopped CannotRead) c d W h says known within still = absurd (still.0 h.cause.why.1)
 runs (Stopped OutOfMemory) c d W h says known within still = inr refl
 runs CannotWrite c d W h says known within still = absurd (still.1 h.faults)
@@ -410,13 +417,14 @@ module _ (c : Call) (w : CheckWords) (W : Parts) (J : List Event) (says : Says c
   checks : (s : Status Conclusion) → Holds (program c) c.left s → IsStill c.left → JudgesBy w.shows (number_of number_of_conclusion s) (c.given.file w.workload) W c.given.stored J ⊎ (number_of number_of_conclusion s ≡ 7)
   checks (Concluded k) h still = inl (checks-concluded k h.text h.prints)
   checks (Stopped BadWords) h still = absurd (not-bad-words c.given _ says (check-asks-none c.given w says) h.cause.why)
-  checks (Stopped (BadLine line (Workload f))) h still =
+  checks (Stopped (BadLine line (Workload f said))) h still =
       let named = h.cause.why.named in
       let same : named.file ≡ w.workload = some-is _ _ (sym named.names ∙ ap workload_file (one-command c.given.words named.command (command.Check w) named.says says)) in
-      absurd (not-refused c.given w.workload W line f tells (subst (λ (n : Text). IfSome (c.given.file n) (λ bytes. Refuses bytes line f)) same h.cause.why.is))
-  checks (Stopped (BadLine line Journal)) h still =
-      absurd (not-bad c.given w.journal J line also (compared-journal c.given c.keep c.journal [] w says h.cause.why.0 (λ bytes. IsNoJournalAt bytes line) h.cause.why.1).1)
-  checks (Stopped (BadLine line Lives)) h still = absurd h.cause.why
+      absurd (not-refused c.given w.workload W line f tells (subst (λ (n : Text). IfSome (c.given.file n) (λ bytes. Refuses bytes line f)) same (refuses-also _ line f said.now h.cause.why.is)))
+  checks (Stopped (BadLine line (Journal said))) h still =
+      absurd (not-bad c.given w.journal J line also (if-some _ (λ bytes. IsNoJournalSo bytes line said.now) (λ bytes. IsNoJournalAt bytes line) (λ bytes so. so.0)
+      (compared-journal c.given c.keep c.journal [] w says h.cause.why.0 (λ bytes. IsNoJournalSo bytes line said.now) h.cause.why.1).1))
+  checks (Stopped (BadLine line (Lives said))) h still = absurd h.cause.why
   checks (Stopped CannotRead) h still = absurd (still.0 h.cause.why.1)
   checks (Stopped OutOfMemory) h still = inr refl
   checks CannotWrite h still = absurd (still.1 h.faults)
@@ -450,12 +458,12 @@ module _ (c : Call) (file : Text) (W : Parts) (says : Says c.given.words (comman
   flows : (s : Status Conclusion) → Holds (program c) c.left s → IsStill c.left → Decides (number_of number_of_conclusion s) (HasFlows c.given.stored.returns W) ⊎ (number_of number_of_conclusion s ≡ 7)
   flows (Concluded k) h still = inl (flow-concluded k h.text h.prints)
   flows (Stopped BadWords) h still = absurd (not-bad-words c.given _ says (flow-asks-none c.given file says) h.cause.why)
-  flows (Stopped (BadLine line (Workload f))) h still =
+  flows (Stopped (BadLine line (Workload f said))) h still =
       let named = h.cause.why.named in
       let same : named.file ≡ file = some-is _ _ (sym named.names ∙ ap workload_file (one-command c.given.words named.command (command.Flow file) named.says says)) in
-      absurd (not-refused c.given file W line f tells (subst (λ (n : Text). IfSome (c.given.file n) (λ bytes. Refuses bytes line f)) same h.cause.why.is))
-  flows (Stopped (BadLine line Journal)) h still = absurd (flow-no-check c.given c.keep c.journal [] file says h.cause.why.0 (λ bytes. IsNoJournalAt bytes line) h.cause.why.1)
-  flows (Stopped (BadLine line Lives)) h still = absurd h.cause.why
+      absurd (not-refused c.given file W line f tells (subst (λ (n : Text). IfSome (c.given.file n) (λ bytes. Refuses bytes line f)) same (refuses-also _ line f said.now h.cause.why.is)))
+  flows (Stopped (BadLine line (Journal said))) h still = absurd (flow-no-check c.given c.keep c.journal [] file says h.cause.why.0 (λ bytes. IsNoJournalSo bytes line said.now) h.cause.why.1)
+  flows (Stopped (BadLine line (Lives said))) h still = absurd h.cause.why
   flows (Stopped CannotRead) h still = absurd (still.0 h.cause.why.1)
   flows (Stopped OutOfMemory) h still = inr refl
   flows CannotWrite h still = absurd (still.1 h.faults)
@@ -533,9 +541,9 @@ refuses-journal CannotWrite c w h says tells still =
 refuses-words : (s : Status Conclusion) (c : Call) → Holds (program c) c.left s → SaysNothing c.given.words → (number_of number_of_conclusion s ≡ 2) ⊎ (number_of number_of_conclusion s ≡ 7)
 refuses-words (Concluded k) c h none = let said = printed-says c.given c.keep c.journal h.text k h.prints in absurd (none said.0 said.1)
 refuses-words (Stopped BadWords) c h none = inl refl
-refuses-words (Stopped (BadLine line (Workload f))) c h none = absurd (none h.cause.why.named.command h.cause.why.named.says)
-refuses-words (Stopped (BadLine line Journal)) c h none = absurd (none _ h.cause.why.1.says)
-refuses-words (Stopped (BadLine line Lives)) c h none = absurd h.cause.why
+refuses-words (Stopped (BadLine line (Workload f said))) c h none = absurd (none h.cause.why.named.command h.cause.why.named.says)
+refuses-words (Stopped (BadLine line (Journal said))) c h none = absurd (none _ h.cause.why.1.says)
+refuses-words (Stopped (BadLine line (Lives said))) c h none = absurd h.cause.why
 refuses-words (Stopped CannotRead) c h none = absurd (none h.cause.why.0.command h.cause.why.0.says)
 refuses-words (Stopped OutOfMemory) c h none = inr refl
 refuses-words CannotWrite c h none = let said = printed-says c.given c.keep c.journal h.text h.conclusion h.prints in absurd (none said.0 said.1)
@@ -580,6 +588,7 @@ answered n c two ends absent missing exceeds faulty = by ends.0 ends.1 ends.2 wh
     words = refuses-words s c h;
     steps = subst (λ m. RefusesSteps m c) is exceeds;
     spends = λ d W steps says known may none few. spends c d W steps two says known may none few s h;
+    adds = λ units says. adds-up c units says s h;
     absent = subst (λ m. MissesFiles m c) is absent;
     missing = subst (λ m. MissesJournals m c) is missing;
     reads = reads-well (program c) c.left (none-concludes 5 (omega arith) (omega arith)) (λ cause. cause.why.1) s h;

@@ -1,4 +1,4 @@
--- The words in a flow are the workload's.
+-- The words in a flow are the workload's, and an operation by which it is not confluent is its own.
 use Rattle.std.proofs.Common.{◌≡◌, ◌++◌, ℕ, zero, suc, List, [], ◌∷◌, Option, Some, None, refl, sym, ap, subst, ◌∙◌, inl, inr}
 use Rattle.std.specs.Prelude.{slice_get}
 use Rattle.std.specs.List.{All}
@@ -13,6 +13,8 @@ use Rattle.abt_machine.specs.Pieces.{IsPieceOf}
 use Rattle.abt_machine.specs.Valid.{IsValid}
 use Rattle.abt_machine.specs.Workloads.{op_at}
 use Rattle.abt_machine.proofs.Declared.{op-declared}
+use Rattle.abt_flow.specs.declared.confluence.Violation.{Violation}
+use Rattle.abt_flow.specs.Violations.{IsFirstViolation}
 use Rattle.abt_flow.specs.Effects.{Memory, FlowEffect, Computes, Awaits, Calls, Depends, effect}
 use Rattle.abt_flow.specs.Flow.{Executes, Functions, IsFlow, IsRow, Becomes, Made}
 
@@ -63,3 +65,7 @@ module _ (W : Parts) (R : Functions) (valid : IsValid W) where
 
   pub flow-says : (rows : List (List Piece)) → IsFlow W R rows → All (All (IsPieceOf W)) rows
   flow-says rows flow = rows-say rows (λ u row at. row-says u row (flow.each u row at))
+
+-- an operation by which a workload is not confluent is declared
+pub violation_declared : (W : Parts) (v : Violation) → IsValid W → IsFirstViolation W v → IsDeclared W v.operation
+violation_declared W v valid first = op-declared W v.unit.0 v.position v.operation valid first.at

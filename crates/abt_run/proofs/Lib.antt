@@ -1,9 +1,11 @@
+pub mod Adding
 pub mod Complete
 pub mod FlowWords
 pub mod Judging
 pub mod Outputs
 pub mod Preparing
 pub mod Searching
+pub mod Small
 pub mod Stepping
 pub mod Storing
 pub mod Texts

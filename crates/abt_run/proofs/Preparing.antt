@@ -54,9 +54,9 @@ no-workload-stops s g d file faults says names = stops-file (IsBadCommand g) (Na
   named = record { command = d; file = file; says = says; names = names }
 
   bad : (line : ℕ) (w : Wrong) → IsNoWorkload (g.file file) line w → IsBadLine g line w
-  bad line (Workload f) h = record { named = named; is = h }
-  bad line Journal h = absurd h
-  bad line Lives h = absurd h
+  bad line (Workload f said) h = record { named = named; is = h }
+  bad line (Journal said) h = absurd h
+  bad line (Lives said) h = absurd h
 
 -- and so is why its workload is not run
 pub no-run-stops : (s : Stop) (g : Given) (w : RunWords) (faults : ℕ × ℕ) → Says g.words (command.Run w) → HasNoRun (g.file w.file) w.steps faults s → StopsCommand g faults s
@@ -68,9 +68,9 @@ no-run-stops s g w faults says = stops-more (Exceeds (g.file w.file) w.steps) (I
   named = record { command = command.Run w; file = w.file; says = says; names = refl }
 
   bad : (line : ℕ) (wrong : Wrong) → IsNoWorkload (g.file w.file) line wrong → IsBadLine g line wrong
-  bad line (Workload f) h = record { named = named; is = h }
-  bad line Journal h = absurd h
-  bad line Lives h = absurd h
+  bad line (Workload f said) h = record { named = named; is = h }
+  bad line (Journal said) h = absurd h
+  bad line (Lives said) h = absurd h
 
 -- and so is why the other file has no journal
 pub no-journal-stops : (s : Stop) (g : Given) (w : CheckWords) (W : Parts) (told : Option Text) (a b c : ℕ) → Says g.words (command.Check w) → IsReadFrom g w.workload W → told ≡ g.file w.journal
@@ -78,9 +78,9 @@ pub no-journal-stops : (s : Stop) (g : Given) (w : CheckWords) (W : Parts) (told
 no-journal-stops s g w W told a b c says reads same first second =
     stops-file (IsBadCommand g) (NamesFile g.words) (IsNoJournalLine told) (IsBadLine g) (b, c) (a, c) (record { command = command.Check w; file = w.workload; says = says; names = refl }) bad (grew-later a b c first second) s where
       bad : (line : ℕ) (wrong : Wrong) → IsNoJournalLine told line wrong → IsBadLine g line wrong
-      bad line (Workload f) h = absurd h
-      bad line Journal h = (W, record { asked = w; says = says; reads = reads; is = subst (λ (o : Option Text). IsNoJournalLine o line Journal) same h })
-      bad line Lives h = absurd h
+      bad line (Workload f said) h = absurd h
+      bad line (Journal said) h = (W, record { asked = w; says = says; reads = reads; is = subst (λ (o : Option Text). IsNoJournalLine o line (Journal said)) same h })
+      bad line (Lives said) h = absurd h
 
 -- a workload that is made of a number has a unit
 pub some-unit : (n : ℕ) → 0 < length (generated n).units

@@ -23,6 +23,7 @@ use Rattle.abt_shell.specs.declared.status.Stop.{Stop}
 use Rattle.abt_shell.specs.declared.status.Stop.TheVariants.{BadWords, BadLine, CannotRead, OutOfMemory}
 use Rattle.abt_shell.specs.declared.status.Wrong.TheVariants.{Workload, Journal, Lives}
 use Rattle.abt_shell.proofs.Fetched.{of-whole, whole}
+use Rattle.abt_workload.specs.Hints.{RefusesSo, hint}
 use Rattle.abt_workload.specs.Reading.{IsCause}
 use Rattle.abt_workload.specs.declared.reading.NotRead.{NotRead}
 use Rattle.abt_workload.specs.declared.reading.NotRead.TheVariants as cause
@@ -64,12 +65,28 @@ told-refuses (Some xs) front line f e refuses = elim (cases_lt (text_limit forma
       let all : Refuses xs 0 fault.Limit = record { least = λ above below. absurd (omega arith); first = too-long xs (omega arith) } in
       subst (λ l. Refuses xs l f) (sym is.0) (subst (λ g. Refuses xs 0 g) (sym is.1) all)
 
+-- as much may be said further of either
+hints-agree : (front xs : Text) (line : ℕ) (f : Fault) → front ≡ take (suc (text_limit format.Three)) xs → Refuses front line f → hint front line f ≡ hint xs line f
+hints-agree front xs line f e refuses = elim (cases_lt (text_limit format.Three) (length front)) [
+  | inl long ↦
+      let is = refused-long front line f refuses long in
+      let all : hint front 0 f ≡ hint xs 0 f = subst (λ g. hint front 0 g ≡ hint xs 0 g) (sym is.1) refl in
+      subst (λ l. hint front l f ≡ hint xs l f) (sym is.0) all
+  | inr short ↦ ap (λ (text : Text). hint text line f) (whole (text_limit format.Three) front xs e short)
+]
+
+-- so the observable bytes are refused as the prefix is, and as much is said further
+told-refuses-so : (told : Option Text) (front : Text) (line : ℕ) (f : Fault) (said : Text) → IfSome told (λ xs. front ≡ take (suc (text_limit format.Three)) xs) → RefusesSo front line f said
+    → IfSome told (λ xs. RefusesSo xs line f said)
+told-refuses-so None front line f said e so = tt
+told-refuses-so (Some xs) front line f said e so = (told-refuses (Some xs) front line f e so.0, so.1 ∙ hints-agree front xs line f e so.0)
+
 -- and stop a call as the prefix does
 pub told-stops : (told : Option Text) (front : Text) (faults : ℕ × ℕ) (s : Stop) → IfSome told (λ xs. front ≡ take (suc (text_limit format.Three)) xs) → HasNoWorkload (Some front) faults s → HasNoWorkload told faults s
 told-stops told front faults BadWords e none = none
-told-stops told front faults (BadLine line (Workload f)) e none = told-refuses told front line f e none
-told-stops told front faults (BadLine line Journal) e none = none
-told-stops told front faults (BadLine line Lives) e none = none
+told-stops told front faults (BadLine line (Workload f said)) e none = told-refuses-so told front line f said.now e none
+told-stops told front faults (BadLine line (Journal said)) e none = none
+told-stops told front faults (BadLine line (Lives said)) e none = none
 told-stops told front faults CannotRead e none = none
 told-stops told front faults OutOfMemory e none = none
 

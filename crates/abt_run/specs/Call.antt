@@ -29,6 +29,7 @@ use Rattle.abt_words.specs.Commands.{Says}
 use Rattle.abt_run.specs.Given.{Given, IsNamed, SaysNothing, Tells, workload_file}
 use Rattle.abt_run.specs.Prepared.{StopsCommand}
 use Rattle.abt_run.specs.Printed.{Prints}
+use Rattle.abt_run.specs.SelfAdds.{SelfAdds}
 use Rattle.abt_run.specs.Status.{name, number_of_conclusion, number_of_end, usage_of}
 use Rattle.abt_run.specs.Steps.{AsksBeyond, ExceedsKnown, LetsStreams, MayMake}
 use Rattle.abt_run.specs.declared.keeping.Keep.{Keep}
@@ -144,6 +145,10 @@ abbrev pub SpendsNone : ℕ → Call → Type 0
 SpendsNone n c = (command : Command) (W : Parts) (steps : ℕ) → Says c.given.words command → RunsKnown command c.given W → MayMake command c.given steps
     → HasNoRevive W → ops_in W ≤ steps → n ≢ 4
 
+-- if the words are `self` with a number of units, the output is what these come to in every run
+abbrev pub AddsUp : ℕ → Call → Type 0
+AddsUp n c = (units : ℕ) → Says c.given.words (command.SelfRun units) → SelfAdds n units c.left
+
 -- the exit status of a call has its cause, and the status comes if its cause holds
 pub record IsAnswered (n : ℕ) (c : Call) : Type 0 where
   pub cause : EndsBy (program c) c.left n
@@ -155,6 +160,7 @@ pub record IsAnswered (n : ℕ) (c : Call) : Type 0 where
   pub words : RefusesWords n c
   pub steps : RefusesSteps n c
   pub spends : SpendsNone n c
+  pub adds : AddsUp n c
   pub absent : MissesFiles n c
   pub missing : MissesJournals n c
   pub reads : (Grew c.left.read_faults → ⊥) → n ≢ 5

@@ -4,5 +4,6 @@ pub mod Given
 pub mod Kept
 pub mod Prepared
 pub mod Printed
+pub mod SelfAdds
 pub mod Status
 pub mod Steps

@@ -1,22 +1,21 @@
 -- Why a command is not carried out.
 use Rattle.std.specs.Prelude.{ℕ, ◌≡◌, ◌⊎◌, ⊤, Option, IfSome}
 use Rattle.abt_machine.specs.declared.workload.Parts.{Parts}
-use Rattle.abt_machine.specs.Grammar.{Refuses}
 use Rattle.abt_machine.specs.Words.{Text}
-use Rattle.abt_report.specs.Journals.{IsNoJournalAt}
-use Rattle.abt_shell.specs.Fetched.{HasNot, StopsFor}
+use Rattle.abt_shell.specs.Fetched.{HasNot, IsNoJournalSo, StopsFor}
 use Rattle.abt_shell.specs.declared.status.Stop.{Stop}
 use Rattle.abt_shell.specs.declared.status.Stop.TheVariants.{CannotRead}
 use Rattle.abt_shell.specs.declared.status.Wrong.{Wrong}
 use Rattle.abt_shell.specs.declared.status.Wrong.TheVariants.{Workload, Journal, Lives}
+use Rattle.abt_workload.specs.Hints.{RefusesSo}
 use Rattle.abt_run.specs.Given.{Compares, Given, NamesFile, NamesSuch, SaysNothing}
 use Rattle.abt_run.specs.Steps.{AsksBeyond, Exceeds}
 
 -- a line of a file that the words name has this wrong
 abbrev pub IsBadLine : Given → ℕ → Wrong → Type 0
-IsBadLine g line (Workload f) = NamesSuch g (λ bytes. Refuses bytes line f)
-IsBadLine g line Journal = (W : Parts) × Compares g W (λ bytes. IsNoJournalAt bytes line)
-IsBadLine g line Lives = ⊥
+IsBadLine g line (Workload f said) = NamesSuch g (λ bytes. RefusesSo bytes line f said.now)
+IsBadLine g line (Journal said) = (W : Parts) × Compares g W (λ bytes. IsNoJournalSo bytes line said.now)
+IsBadLine g line (Lives said) = ⊥
 
 -- the words are not a command, or ask for more steps than a file allows
 abbrev pub IsBadCommand : Given → Type 0
@@ -30,9 +29,9 @@ StopsCommand g = StopsFor (IsBadCommand g) (NamesFile g.words) (IsBadLine g)
 
 -- a line has this wrong, which keeps the file from being a workload's
 abbrev pub IsNoWorkload : Option Text → ℕ → Wrong → Type 0
-IsNoWorkload told line (Workload f) = IfSome told (λ bytes. Refuses bytes line f)
-IsNoWorkload told line Journal = ⊥
-IsNoWorkload told line Lives = ⊥
+IsNoWorkload told line (Workload f said) = IfSome told (λ bytes. RefusesSo bytes line f said.now)
+IsNoWorkload told line (Journal said) = ⊥
+IsNoWorkload told line (Lives said) = ⊥
 
 -- why the file has no workload
 abbrev pub HasNoWorkload : Option Text → ℕ × ℕ → Stop → Type 0

@@ -4,6 +4,7 @@ use Rattle.abt_machine.specs.declared.events.Event.{Event}
 use Rattle.abt_machine.specs.declared.events.Outcome.{Outcome}
 use Rattle.abt_machine.specs.declared.events.Piece.{Piece}
 use Rattle.abt_machine.specs.declared.workload.Parts.{Parts}
+use Rattle.abt_machine.specs.Canonical.{op_words}
 use Rattle.abt_machine.specs.Outcomes.{steps_in}
 use Rattle.abt_machine.specs.Runs.{Run as IsRun, last_state}
 use Rattle.abt_machine.specs.State.{State}
@@ -19,7 +20,9 @@ use Rattle.abt_drain.specs.Ends.{IsLeftOf}
 use Rattle.abt_drain.specs.InRotation.{IsMadeInRotation}
 use Rattle.abt_drain.specs.Looks.{EndsWith}
 use Rattle.abt_drain.specs.Runs.{HasRun, IsRunOf}
+use Rattle.abt_flow.specs.declared.confluence.Violation.{Violation}
 use Rattle.abt_flow.specs.Confluent.{Confluent}
+use Rattle.abt_flow.specs.Violations.{IsFirstViolation}
 use Rattle.abt_flow.specs.Finishing.{IsOrderly}
 use Rattle.abt_flow.specs.Flow.{IsFlow}
 use Rattle.abt_generate.specs.Generated.{generated}
@@ -28,6 +31,7 @@ use Rattle.abt_record.specs.Records.{IsKept}
 use Rattle.abt_report.specs.Outputs.{outputs_text}
 use Rattle.abt_report.specs.Pictures.{IsPictureOf}
 use Rattle.abt_schedule.specs.Seeds.{IsSeeded}
+use Rattle.abt_sizes.specs.Laws.{IsSmall}
 use Rattle.abt_why.specs.Texts.{why_text}
 use Rattle.abt_words.specs.declared.commands.Command.{Command}
 use Rattle.abt_words.specs.declared.commands.Command.TheVariants as command
@@ -107,7 +111,7 @@ pub record IsShownIn (W : Parts) (needs : Bool) (J : List Event) (left : Run) : 
   pub steps : left.steps ≡ steps_in J
   pub journal : needs ≡ true → left.journal ≡ Some J
 
--- the journal is a run of the workload of the words' command, ended so, the text is its output, and the answer has it, if it is kept
+-- the journal is a run of the workload of the words' command, ended so, and small, the text is its output, and the answer has it, if it is kept
 pub record Ran (g : Given) (keep : Keep) (answered : Option (List Event)) (o : Outcome) (text : Text) : Type 0 where
   pub command : Command
   pub says : Says g.words command
@@ -118,6 +122,7 @@ pub record Ran (g : Given) (keep : Keep) (answered : Option (List Event)) (o : O
   pub journal : List Event
   pub run : HasRunBy (schedule_of command) workload g.stored steps journal o
   pub scheduled : TakesTurns (schedule_of command) workload g.stored steps journal
+  pub small : IsSmall workload journal
   pub output : text ≡ output_text workload (last_state workload journal) journal o command
   pub kept : IsKept (keeps keep (needs_journal command)) journal answered
 
@@ -190,10 +195,22 @@ pub record HasFlow (g : Given) (text : Text) : Type 0 where
   pub flow : IsFlow workload g.stored.returns rows
   pub output : ShowsFlow workload rows text
 
-pub record IsNotConfluent (g : Given) : Type 0 where
+-- an operation by which a workload is not confluent, as its line in the workload's text has it
+abbrev pub violation_line : Parts → Violation → Text
+violation_line W v =
+    (codes "unit " ++ decimal v.unit.0) ++ ((codes " operation " ++ decimal v.position) ++ (codes ": " ++ ended (line_of (op_words W v.operation))))
+
+abbrev pub violation_text : Parts → Violation → Text
+violation_text W v = codes "not confluent\n" ++ violation_line W v
+
+-- the workload is not confluent, and the text names the first operation by which it is not
+pub record IsNotConfluent (g : Given) (text : Text) : Type 0 where
   pub workload : Parts
   pub asks : AsksFlow g workload
   pub other : Confluent workload → ⊥
+  pub violation : Violation
+  pub first : IsFirstViolation workload violation
+  pub output : text ≡ violation_text workload violation
 
 -- the workload is confluent, and has no flow
 pub record HasNoFlow (g : Given) : Type 0 where
@@ -212,7 +229,7 @@ Prints g keep (Ends end) answered text = HasJudged g (Ends end) text × (answere
 Prints g keep (Followed end) answered text = HasJudged g (Followed end) text × (answered ≡ None)
 Prints g keep (Strays at) answered text = HasJudged g (Strays at) text × (answered ≡ None)
 Prints g keep Flows answered text = HasFlow g text × (answered ≡ None)
-Prints g keep NotConfluent answered text = IsNotConfluent g × (text ≡ codes "not confluent\n") × (answered ≡ None)
+Prints g keep NotConfluent answered text = IsNotConfluent g text × (answered ≡ None)
 Prints g keep Undefined answered text = HasNoFlow g × (text ≡ codes "undefined\n") × (answered ≡ None)
 Prints g keep Finishes answered text = ShowsEnds g Finishes text × (answered ≡ None)
 Prints g keep Sticks answered text = ShowsEnds g Sticks text × (answered ≡ None)

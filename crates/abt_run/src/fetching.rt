@@ -10,7 +10,7 @@ use abt_machine::{Format, Workload};
 use abt_shell::{Stop, Wrong, bytes_of};
 use abt_source::Files;
 use abt_words::allowed_steps;
-use abt_workload::{NotRead, format_of, read};
+use abt_workload::{NotRead, format_of, hint, read};
 use std::alloc::Global;
 
 /// The workload of a file.
@@ -69,7 +69,10 @@ fn workload_in(alloc: Global, bytes: &[u8]) -> Result<Workload, Stop>
 {
     match read(alloc, bytes) {
         Ok(w) => Ok(w),
-        Err(NotRead::Refused { line, fault }) => Err(Stop::BadLine(line, Wrong::Workload(fault))),
+        Err(NotRead::Refused { line, fault }) => {
+            let said = hint(alloc, bytes, line, fault)?;
+            Err(Stop::BadLine(line, Wrong::Workload(fault, said)))
+        }
         Err(NotRead::Memory) => Err(Stop::OutOfMemory),
     }
 }

@@ -1,12 +1,14 @@
 use Rattle.std.proofs.Common.{◌≡◌, ◌∙◌, Bool, ap, subst}
 use Rattle.abt_words.specs.declared.commands.Command.TheVariants as command
 use Rattle.abt_words.specs.declared.commands.RunWords.{RunWords}
+use Rattle.abt_order.specs.Stored.{stored_of}
 use Rattle.abt_record.specs.Records.{IsKept}
 use Rattle.abt_shell.proofs.Fetched.{passed, passed-on}
 use Rattle.abt_machine.specs.Runs.{Run}
 use Rattle.abt_run.specs.Kept.{either, keeps}
 use Rattle.abt_run.proofs.Outputs.{kept-has, run-is-run, shown-in}
-use Rattle.abt_run.proofs.Preparing.{no-run-stops, prints-as}
+use Rattle.abt_run.proofs.Preparing.{as-many, no-run-stops, prints-as}
+use Rattle.abt_run.proofs.Small.{run-is-small}
 use Rattle.abt_run.proofs.Storing.{stores_calls}
 use Rattle.abt_run.proofs.running.prepare_file.Goals as goal
 
@@ -43,6 +45,8 @@ returns-clause-done g c = λ words says.
       journal = left.events;
       run = left.holds.0;
       scheduled = left.holds.1;
+      small = run-is-small c.in_ok-w.w (stored_of c.args.orders.now (g.P.Work.returns c.args.work.now)) c.known.ensures (as-many _ c.args.orders.now 2 c.requires.orders) left.events
+          (run-is-run c.in_ok-w.w _ _ left.events c.in_ok-ran.ran.outcome c.args.schedule left.holds.0);
       output = c.in_ok-text.ensures left.events asked (shown-in c.in_ok-w.w c.args.keep (either c.args.with_journal c.args.with_why) c.keeps-keeps.result _ c.in_ok-ran.ran kept left);
       kept = subst (λ (b : Bool). IsKept b left.events c.in_ok-ran.ran.journal) kept left.kept;
     })

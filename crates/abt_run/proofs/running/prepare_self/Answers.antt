@@ -2,9 +2,11 @@ use Rattle.std.proofs.Common.{◌<◌, Bool, false, length, refl, subst, sym}
 use Rattle.abt_machine.specs.Limits.{default_steps}
 use Rattle.abt_machine.specs.declared.workload.Parts.{Parts}
 use Rattle.abt_words.specs.declared.commands.Command.TheVariants as command
+use Rattle.abt_order.specs.Stored.{stored_of}
 use Rattle.abt_record.specs.Records.{IsKept}
 use Rattle.abt_run.proofs.Outputs.{shown-in, some-row}
-use Rattle.abt_run.proofs.Preparing.{prints-as, some-unit}
+use Rattle.abt_run.proofs.Preparing.{as-many, prints-as, some-unit}
+use Rattle.abt_run.proofs.Small.{run-is-small}
 use Rattle.abt_run.proofs.running.prepare_self.Goals as goal
 
 pub short_output-requires-clause-unit : goal.short_output-requires-clause-unit
@@ -26,6 +28,7 @@ returns-clause-done g c = λ words file_of says.
       journal = left.events;
       run = left.holds;
       scheduled = tt;
+      small = run-is-small c.in_ok-w.w (stored_of c.args.orders.now (g.P.Work.returns c.args.work.now)) c.known.ensures (as-many _ c.args.orders.now 2 c.requires.orders) left.events left.holds.run;
       output = c.in_ok-text.ensures left.events c.args.units (shown-in c.in_ok-w.w c.args.keep false c.keeps-keeps.result _ c.in_ok-ran.ran c.keeps-keeps.ensures left);
       kept = subst (λ (b : Bool). IsKept b left.events c.in_ok-ran.ran.journal) c.keeps-keeps.ensures left.kept;
     })
