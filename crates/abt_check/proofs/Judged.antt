@@ -34,7 +34,7 @@ module _ (W : Parts) (Z : Stored) where
   pub run-last : (J : List Event) (e : Event) → Run W Z (J ++ e ∷ []) → (e.stream.0 < W.streams) × May W Z (last_state W J) e.stream.0 e.what
   run-last J e run = let rest : RunFrom W Z (last_state W J) (e ∷ []) = run-rest W Z (start W) J (e ∷ []) run in (rest.0, rest.1)
 
-  last_state-more : (J : List Event) (e : Event) → last_state W (J ++ e ∷ []) ≡ after W (last_state W J) e.stream.0 e.what
+  pub last_state-more : (J : List Event) (e : Event) → last_state W (J ++ e ∷ []) ≡ after W (last_state W J) e.stream.0 e.what
   last_state-more J e = state_after-append W (start W) J (e ∷ [])
 
   -- what an event of a run names is declared

@@ -1,3 +1,4 @@
 pub mod Clocking
 pub mod Judged
+mod Replayed
 pub mod Stamping

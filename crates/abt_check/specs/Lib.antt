@@ -1,3 +1,4 @@
 pub mod Clocks
 pub mod Judges
+pub mod Pieces
 pub mod Verdicts

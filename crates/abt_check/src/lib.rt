@@ -4,7 +4,9 @@
 mod clocks;
 mod judge;
 mod judging;
+mod pieces;
 mod verdict;
 
 pub use judging::{check, one_verdict};
+pub use pieces::put_out;
 pub use verdict::Verdict;

@@ -1,11 +1,12 @@
 //! All streams with the objects that they share.
 
-ghost use Rattle.std.specs.Prelude.{ℕ, ◌≡◌, ◌<◌, ◌-◌, ◌^◌, ◌↔◌, IfOk, IsTrue, length};
+ghost use Rattle.std.specs.Prelude.{ℕ, ◌≡◌, ◌<◌, ◌-◌, ◌^◌, ◌↔◌, IfOk, IsTrue, Some, length};
 ghost use Rattle.abt_model.specs.Choices.{AreChoices};
 ghost use Rattle.abt_model.specs.Hints.{IsMade, TellsSome};
 ghost use Rattle.abt_model.specs.Models.{MayBeDone, IsAfter, StandsFor};
 ghost use Rattle.abt_model.specs.Pictures.{SaysWords, ShowsUnits};
 ghost use Rattle.abt_machine.specs.declared.workload.Parts.{Parts};
+ghost use Rattle.abt_machine.specs.Lines.{hand};
 ghost use Rattle.abt_machine.specs.Next.{StepDue, due};
 ghost use Rattle.abt_machine.specs.Outcomes.{AllEnded, Quiet};
 ghost use Rattle.abt_machine.specs.Rounds.{OrdersStored};
@@ -152,6 +153,14 @@ impl Model {
         ensures { (W : Parts) (S : State) → StandsFor W S self.now → s.0 < W.streams → result ≡ (S.stream s.0).top.empty }
     {
         self.lanes[s.0 as usize].top().empty
+    }
+
+    /// The accumulator of the unit in the hand of stream `s`, if it has one.
+    pub fn acc_in_hand(&self, s: StreamNo) -> Option<u64>
+        requires stream { s.0 < length self.now.lanes }
+        ensures { (W : Parts) (S : State) (u : ℕ) → StandsFor W S self.now → s.0 < W.streams → hand W S s.0 ≡ Some u → result ≡ Some (S.carried u).acc }
+    {
+        self.lanes[s.0 as usize].hand().map(|unit| unit.acc())
     }
 
     /// Makes the next event of stream `s`; if a round is due, at the pool that the hint visits, and if a call is, one that
