@@ -4,7 +4,9 @@ use Rattle.abt_machine.specs.declared.events.Event.{Event}
 use Rattle.abt_machine.specs.declared.workload.Parts.{Parts}
 use Rattle.abt_machine.specs.Grammar.{Reads}
 use Rattle.abt_machine.specs.Words.{Text}
-use Rattle.abt_report.specs.Journals.{IsNoJournalAt, IsTextOf}
+use Rattle.abt_report.specs.Journals.{IsTextOf}
+use Rattle.abt_run.proofs.Complete.{refuses-also}
+use Rattle.abt_shell.specs.Fetched.{IsNoJournalSo}
 use Rattle.abt_report.proofs.Limits.{not-both}
 use Rattle.abt_shell.specs.declared.status.Stop.TheVariants.{BadWords, BadLine, CannotRead, OutOfMemory}
 use Rattle.abt_shell.specs.declared.status.Wrong.TheVariants.{Workload, Journal, Lives}
@@ -30,11 +32,11 @@ shown (Stopped OutOfMemory) c q names bytes J h asks tells at is still quiet = i
 shown (Stopped BadWords) c q names bytes J h asks tells at is still quiet = absurd (h.cause.0 q asks)
 shown (Stopped CannotRead) c q names bytes J h asks tells at is still quiet = absurd (still h.cause.1)
 shown CannotWrite c q names bytes J h asks tells at is still quiet = absurd (quiet h.faults)
-shown (Stopped (BadLine line Journal)) c q names bytes J h asks tells at is still quiet =
-    absurd (not-both J bytes line is (of-journal (λ b. IsNoJournalAt b line) c.words h.cause.request q bytes c.file h.cause.asks asks at h.cause.is))
-shown (Stopped (BadLine line (Workload f))) c q names bytes J h asks tells at is still quiet =
-    absurd (not-refused c.words h.cause.request q c.file h.cause.file names line f h.cause.asks asks h.cause.names tells h.cause.is)
-shown (Stopped (BadLine line Lives)) c q names bytes J h asks tells at is still quiet = absurd h.cause
+shown (Stopped (BadLine line (Journal said))) c q names bytes J h asks tells at is still quiet =
+    absurd (not-both J bytes line is (of-journal (λ b. IsNoJournalSo b line said.now) c.words h.cause.request q bytes c.file h.cause.asks asks at h.cause.is).0)
+shown (Stopped (BadLine line (Workload f said))) c q names bytes J h asks tells at is still quiet =
+    absurd (not-refused c.words h.cause.request q c.file h.cause.file names line f h.cause.asks asks h.cause.names tells (refuses-also _ line f said.now h.cause.is))
+shown (Stopped (BadLine line (Lives said))) c q names bytes J h asks tells at is still quiet = absurd h.cause
 
 -- what the program says of itself is written
 told : (s : Status Conclusion) (c : Call) (text : Text) → Holds (program c) c.left s → IsAbout c.words text → (Grew c.left.out_faults → ⊥)
@@ -46,9 +48,9 @@ told (Stopped OutOfMemory) c text h about quiet = inr refl
 told (Stopped BadWords) c text h about quiet = absurd (h.cause.1 about.0 about.1)
 told (Stopped CannotRead) c text h about quiet = absurd (asks-none c.words about.0 h.cause.0.request about.1 h.cause.0.asks)
 told CannotWrite c text h about quiet = absurd (quiet h.faults)
-told (Stopped (BadLine line Journal)) c text h about quiet = absurd (asks-none c.words about.0 h.cause.request about.1 h.cause.asks)
-told (Stopped (BadLine line (Workload f))) c text h about quiet = absurd (asks-none c.words about.0 h.cause.request about.1 h.cause.asks)
-told (Stopped (BadLine line Lives)) c text h about quiet = absurd h.cause
+told (Stopped (BadLine line (Journal said))) c text h about quiet = absurd (asks-none c.words about.0 h.cause.request about.1 h.cause.asks)
+told (Stopped (BadLine line (Workload f said))) c text h about quiet = absurd (asks-none c.words about.0 h.cause.request about.1 h.cause.asks)
+told (Stopped (BadLine line (Lives said))) c text h about quiet = absurd h.cause
 
 module _ (c : Call) (q : Request) (asks : Asks c.words q) where
   -- a workload's text that is none is not drawn from
@@ -76,9 +78,9 @@ refuses-words : (s : Status Conclusion) (c : Call) → Holds (program c) c.left 
 refuses-words (Concluded k) c h none = absurd (none-asked c.words c.file none k h.text h.prints)
 refuses-words CannotWrite c h none = absurd (none-asked c.words c.file none h.conclusion h.text h.prints)
 refuses-words (Stopped BadWords) c h none = inl refl
-refuses-words (Stopped (BadLine line (Workload f))) c h none = absurd (none.0 h.cause.request h.cause.asks)
-refuses-words (Stopped (BadLine line Journal)) c h none = absurd (none.0 h.cause.request h.cause.asks)
-refuses-words (Stopped (BadLine line Lives)) c h none = absurd h.cause
+refuses-words (Stopped (BadLine line (Workload f said))) c h none = absurd (none.0 h.cause.request h.cause.asks)
+refuses-words (Stopped (BadLine line (Journal said))) c h none = absurd (none.0 h.cause.request h.cause.asks)
+refuses-words (Stopped (BadLine line (Lives said))) c h none = absurd h.cause
 refuses-words (Stopped CannotRead) c h none = absurd (none.0 h.cause.0.request h.cause.0.asks)
 refuses-words (Stopped OutOfMemory) c h none = inr refl
 

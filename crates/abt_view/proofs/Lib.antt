@@ -4,4 +4,5 @@ pub mod Concluding
 pub mod Preparing
 pub mod Ranges
 pub mod Joining
+pub mod Noting
 pub mod Requests

@@ -17,9 +17,9 @@ pub no-workload-stops : (words : List Text) (file_of : Text → Option Text) (q 
 no-workload-stops words file_of q file asks names s faults =
     stops-file (AsksNothing words) (NamesFile words) (IsNoWorkload (file_of file)) (IsBadLine words file_of) faults faults (record { request = q; asks = asks }) bad (λ grew. grew) s where
       bad : (line : ℕ) (w : Wrong) → IsNoWorkload (file_of file) line w → IsBadLine words file_of line w
-      bad line (Workload f) h = record { request = q; file = file; asks = asks; names = names; is = h }
-      bad line Journal h = absurd h
-      bad line Lives h = absurd h
+      bad line (Workload f said) h = record { request = q; file = file; asks = asks; names = names; is = h }
+      bad line (Journal said) h = absurd h
+      bad line (Lives said) h = absurd h
 
 -- and so is why the journal's file, which is read after it, has no journal
 pub no-journal-stops : (words : List Text) (file_of : Text → Option Text) (q : Request) (names : Option Parts) (told : Option Text) (a b c : ℕ) → Asks words q → ReadsNames q.workload file_of names
@@ -27,7 +27,7 @@ pub no-journal-stops : (words : List Text) (file_of : Text → Option Text) (q :
 no-journal-stops words file_of q names told a b c asks reads same first second s =
     stops-file (AsksNothing words) (NamesFile words) (IsNoJournalLine told) (IsBadLine words file_of) (b, c) (a, c) (record { request = q; asks = asks }) bad (grew-later a b c first second) s where
       bad : (line : ℕ) (w : Wrong) → IsNoJournalLine told line w → IsBadLine words file_of line w
-      bad line (Workload f) h = absurd h
-      bad line Journal h =
-          record { request = q; names = names; asks = asks; reads = reads; is = subst (λ (o : Option Text). IsNoJournalLine o line Journal) same h }
-      bad line Lives h = absurd h
+      bad line (Workload f said) h = absurd h
+      bad line (Journal said) h =
+          record { request = q; names = names; asks = asks; reads = reads; is = subst (λ (o : Option Text). IsNoJournalLine o line (Journal said)) same h }
+      bad line (Lives said) h = absurd h

@@ -6,6 +6,7 @@ use Rattle.abt_machine.specs.declared.workload.Parts.{Parts}
 use Rattle.abt_machine.specs.Grammar.{Reads, Refuses}
 use Rattle.abt_machine.specs.Words.{Text}
 use Rattle.abt_run.specs.Prepared.{HasNoWorkload}
+use Rattle.abt_run.proofs.Complete.{refuses-also}
 use Rattle.abt_shell.specs.declared.status.Stop.{Stop}
 use Rattle.abt_shell.specs.declared.status.Stop.TheVariants.{BadWords, BadLine, CannotRead, OutOfMemory}
 use Rattle.abt_shell.specs.declared.status.Wrong.TheVariants.{Workload, Journal, Lives}
@@ -112,9 +113,9 @@ not-read words p q file_of file bytes names one two names-file reads at none =
 -- if the workload is known, the journal is lacked since it cannot be read
 known-lacks : (told : Option Text) (bytes : Text) (W : Parts) (faults : ℕ × ℕ) (s : Stop) → told ≡ Some bytes → Reads bytes W → HasNoWorkload told faults s → (s ≡ CannotRead) ⊎ (s ≡ OutOfMemory)
 known-lacks told bytes W faults BadWords seen reads none = absurd none
-known-lacks told bytes W faults (BadLine line (Workload f)) seen reads none = absurd (reads-whole bytes W line f reads (of-observed (λ text. Refuses text line f) told bytes seen none))
-known-lacks told bytes W faults (BadLine line Journal) seen reads none = absurd none
-known-lacks told bytes W faults (BadLine line Lives) seen reads none = absurd none
+known-lacks told bytes W faults (BadLine line (Workload f said)) seen reads none = absurd (reads-whole bytes W line f reads (of-observed (λ text. Refuses text line f) told bytes seen (refuses-also told line f said.now none)))
+known-lacks told bytes W faults (BadLine line (Journal said)) seen reads none = absurd none
+known-lacks told bytes W faults (BadLine line (Lives said)) seen reads none = absurd none
 known-lacks told bytes W faults CannotRead seen reads none = inl refl
 known-lacks told bytes W faults OutOfMemory seen reads none = inr refl
 

@@ -8,7 +8,8 @@ use Rattle.abt_machine.specs.declared.workload.Parts.{Parts}
 use Rattle.abt_machine.specs.Lives.{unit_of}
 use Rattle.abt_machine.specs.Texts.{code_name}
 use Rattle.abt_machine.specs.Words.{Text}
-use Rattle.abt_view.specs.Named.{op_of, operation_of}
+use Rattle.abt_view.specs.declared.notes.Note.{Note}
+use Rattle.abt_view.specs.Named.{op_of, operation_of, output_of}
 use Rattle.abt_view.specs.Texts.{around}
 
 -- Strings.
@@ -95,15 +96,21 @@ outcome_arg (what.Leave u) = []
 
 -- All arguments.
 
+-- what an event put out, as a string, since it may have 64 bits
+abbrev pub output_arg : Option Text → Text
+output_arg None = []
+output_arg (Some output) = codes ",\"output\":\"" ++ (json_text output ++ codes "\"")
+
 -- those of an event of this unit
-abbrev pub args_by : Option Parts → What → Option ℕ → Text
-args_by names w None = []
-args_by names w (Some u) =
-    around (codes ",\"args\":{\"unit\":") u [] ++ (operation_arg (operation_of names w) ++ (object_arg_of (op_of names w) ++ (outcome_arg w ++ codes "}")))
+abbrev pub args_by : Option Parts → Note → Option ℕ → Text
+args_by names n None = []
+args_by names n (Some u) =
+    around (codes ",\"args\":{\"unit\":") u []
+    ++ (operation_arg (operation_of names n.event.what) ++ (object_arg_of (op_of names n.event.what) ++ (outcome_arg n.event.what ++ (output_arg (output_of names n) ++ codes "}"))))
 
 -- those of an event: none if it is of no unit
-abbrev pub args_text : Option Parts → What → Text
-args_text names w = args_by names w (unit_of w)
+abbrev pub args_text : Option Parts → Note → Text
+args_text names n = args_by names n (unit_of n.event.what)
 
 -- the end of a slice whose name ends with the number of its unit: the number, and the unit as its argument
 abbrev pub unit_end : ℕ → Text

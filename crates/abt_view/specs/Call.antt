@@ -1,20 +1,23 @@
 -- What a call of the program reads and writes, and what each exit status says about that.
-use Rattle.std.specs.Prelude.{◌≡◌, ◌≢◌, ◌⊎◌, ℕ, List, Option, Some, None, IfSome, codes}
+use Rattle.std.specs.Prelude.{◌≡◌, ◌≢◌, ◌⊎◌, ℕ, List, [], Option, Some, None, IfSome, codes}
 use Rattle.std.specs.List.{All}
+use Rattle.abt_check.specs.Pieces.{ArePieces}
 use Rattle.abt_machine.specs.declared.events.Event.{Event}
+use Rattle.abt_machine.specs.declared.events.Piece.{Piece}
 use Rattle.abt_machine.specs.declared.workload.Parts.{Parts}
-use Rattle.abt_machine.specs.Grammar.{Reads, Refuses}
+use Rattle.abt_machine.specs.Grammar.{Reads}
 use Rattle.abt_machine.specs.Words.{Text}
-use Rattle.abt_report.specs.Journals.{IsEvent, IsNoJournalAt, IsTextOf}
+use Rattle.abt_report.specs.Journals.{IsEvent, IsTextOf}
 use Rattle.abt_run.specs.Prepared.{LacksSecond}
 use Rattle.abt_shell.specs.declared.status.Stop.{Stop}
 use Rattle.abt_shell.specs.declared.status.Stop.TheVariants.{CannotRead}
 use Rattle.abt_shell.specs.declared.status.Wrong.{Wrong}
 use Rattle.abt_shell.specs.declared.status.Wrong.TheVariants.{Workload, Journal, Lives}
 use Rattle.abt_shell.specs.Calls.{EndsBy, HasReadFault, Left, Program}
-use Rattle.abt_shell.specs.Fetched.{StopsFor}
+use Rattle.abt_shell.specs.Fetched.{IsNoJournalSo, StopsFor}
 use Rattle.abt_shell.specs.More.{Adds}
 use Rattle.abt_shell.specs.Told.{Grew}
+use Rattle.abt_workload.specs.Hints.{RefusesSo}
 use Rattle.abt_view.specs.declared.views.Conclusion.{Conclusion}
 use Rattle.abt_view.specs.declared.views.Conclusion.TheVariants.{Shown, TooLarge, Told}
 use Rattle.abt_view.specs.Views.{Asks, AsksNothing, IsAbout, Request, conclusion_of, number_of_conclusion, view_text}
@@ -65,6 +68,12 @@ pub record NamesJournal (words : List Text) (file_of : Text → Option Text) (Is
   pub reads : ReadsNames request.workload file_of names
   pub is : IfSome (file_of request.journal) Is
 
+-- the pieces are what the first events of the journal put out, as many as are a run of the workload with some stored orders and
+-- functions; none if there is no workload
+abbrev pub PutOut : Option Parts → List Event → List (Option Piece) → Type 0
+PutOut None J pieces = pieces ≡ []
+PutOut (Some W) J pieces = ArePieces W J pieces
+
 -- the text is that view of the journal in a file, whose numbers are within their types, with the operations of the workload, if one is
 -- named, and the call comes to this conclusion of it
 pub record IsFileView (q : Request) (file_of : Text → Option Text) (conclusion : Conclusion) (text : Text) : Type 0 where
@@ -73,7 +82,9 @@ pub record IsFileView (q : Request) (file_of : Text → Option Text) (conclusion
   pub events : All IsEvent journal
   pub workload : ReadsNames q.workload file_of names
   pub reads : IfSome (file_of q.journal) (IsTextOf journal)
-  pub shows : text ≡ view_text q.view names journal
+  pub pieces : List (Option Piece)
+  pub put_out : PutOut names journal pieces
+  pub shows : text ≡ view_text q.view names pieces journal
   pub concludes : conclusion ≡ conclusion_of q.view journal
 
 -- the text is the view that the words ask for, and the call comes to this conclusion of it
@@ -92,9 +103,9 @@ Prints words file_of Told text = IsAbout words text
 
 -- a line of a file that the words name has this fault; the workload is read before the journal
 abbrev pub IsBadLine : List Text → (Text → Option Text) → ℕ → Wrong → Type 0
-IsBadLine words file_of line (Workload f) = NamesWorkload words file_of (λ bytes. Refuses bytes line f)
-IsBadLine words file_of line Journal = NamesJournal words file_of (λ bytes. IsNoJournalAt bytes line)
-IsBadLine words file_of line Lives = ⊥
+IsBadLine words file_of line (Workload f said) = NamesWorkload words file_of (λ bytes. RefusesSo bytes line f said.now)
+IsBadLine words file_of line (Journal said) = NamesJournal words file_of (λ bytes. IsNoJournalSo bytes line said.now)
+IsBadLine words file_of line (Lives said) = ⊥
 
 -- why the call stops, by the words, the files, and the count of read faults before and afterwards
 abbrev pub StopsView : List Text → (Text → Option Text) → ℕ × ℕ → Stop → Type 0

@@ -1,12 +1,12 @@
 -- The texts in a bar: the number of its unit, and behind it the operations that have room.
 use Rattle.std.specs.Prelude.{ℕ, ◌+◌, ◌-◌, ◌/◌, ◌&&◌, nat_le, nat_lt, Bool, if◌then◌else◌, List, [], ◌++◌, codes, fold, length, max, min, Option, Some, None}
-use Rattle.abt_machine.specs.declared.events.Event.{Event}
 use Rattle.abt_machine.specs.declared.workload.Parts.{Parts}
 use Rattle.abt_machine.specs.Words.{Text}
 use Rattle.abt_view.specs.declared.bands.Band.{Band}
 use Rattle.abt_view.specs.declared.labels.Part.{Part}
+use Rattle.abt_view.specs.declared.notes.Note.{Note}
 use Rattle.abt_view.specs.declared.stretches.Stretch.{Stretch}
-use Rattle.abt_view.specs.Named.{operation_of, xml_text}
+use Rattle.abt_view.specs.Named.{shown_of, xml_text}
 use Rattle.abt_view.specs.Texts.{around}
 
 -- the part of a bar that a band shows
@@ -42,11 +42,11 @@ labelled_by part stamp row (Some operation) =
     then record { covered = stamp - part.first + length operation / 2; text = row.text ++ label_text part stamp operation }
     else row
 
-abbrev pub labelled : Part → Option Parts → RowValue → Event → RowValue
-labelled part names row e = labelled_by part e.stamp row (operation_of names e.what)
+abbrev pub labelled : Part → Option Parts → RowValue → Note → RowValue
+labelled part names row n = labelled_by part n.event.stamp row (shown_of names n)
 
 -- the operations of these events, from left to right, each if it has room behind the number of the unit and the operations before it
-abbrev pub labels_text : Part → Option Parts → ℕ → List Event → Text
+abbrev pub labels_text : Part → Option Parts → ℕ → List Note → Text
 labels_text part names u events = (fold (labelled part names) (record { covered = number_end u; text = [] }) events).text
 
 -- the texts in a bar

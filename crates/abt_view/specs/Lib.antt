@@ -6,6 +6,7 @@ pub mod Frames
 pub mod Kinds
 pub mod Labels
 pub mod Named
+pub mod Notes
 pub mod Picture
 pub mod Shapes
 pub mod Stretches

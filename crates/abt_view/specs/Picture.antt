@@ -2,6 +2,7 @@
 use Rattle.std.specs.Prelude.{ℕ, ◌+◌, ◌-◌, ◌*◌, ◌/◌, ◌&&◌, nat_le, Bool, if◌then◌else◌, List, [], ◌++◌, codes, flat_map, length, max, min, Option}
 use Rattle.std.specs.List.{range_with_len}
 use Rattle.abt_machine.specs.declared.events.Event.{Event}
+use Rattle.abt_machine.specs.declared.events.Piece.{Piece}
 use Rattle.abt_machine.specs.declared.workload.Parts.{Parts}
 use Rattle.abt_machine.specs.Outcomes.{steps_in}
 use Rattle.abt_machine.specs.Words.{Text}
@@ -10,6 +11,7 @@ use Rattle.abt_view.specs.Arrows.{arrows_of}
 use Rattle.abt_view.specs.Bands.{band_at, band_height, bands_in}
 use Rattle.abt_view.specs.Frames.{all_frames}
 use Rattle.abt_view.specs.Kinds.{greatest_stamp, refused_in}
+use Rattle.abt_view.specs.Notes.{noted}
 use Rattle.abt_view.specs.Shapes.{bar_in, frame_in, lines_in, mark_in}
 use Rattle.abt_view.specs.Stretches.{all_stretches, streams_in}
 use Rattle.abt_view.specs.Texts.{around}
@@ -69,14 +71,14 @@ abbrev pub axis_text : List Event → ℕ → Text
 axis_text J n = window_text (band_height (streams_in J)) n ++ (ticks_text n (greatest_stamp J) ++ columns_text n (greatest_stamp J))
 
 -- the band with what it shows: what comes later lies above
-abbrev pub band_text : Option Parts → List Event → ℕ → Text
-band_text names J n =
-    axis_text J n ++ (flat_map (frame_in (band_at n)) (all_frames J) ++ (flat_map (bar_in (band_at n) names) (all_stretches J) ++ (flat_map (mark_in (band_at n)) J ++ (flat_map (lines_in (band_at n)) (arrows_of J) ++ codes "</svg>\n"))))
+abbrev pub band_text : Option Parts → List (Option Piece) → List Event → ℕ → Text
+band_text names pieces J n =
+    axis_text J n ++ (flat_map (frame_in (band_at n)) (all_frames J) ++ (flat_map (bar_in (band_at n) names) (all_stretches (streams_in J) (noted J pieces)) ++ (flat_map (mark_in (band_at n)) J ++ (flat_map (lines_in (band_at n)) (arrows_of J) ++ codes "</svg>\n"))))
 
 -- The picture.
 
-abbrev pub picture_text : Option Parts → List Event → Text
-picture_text names J = head_text J ++ (flat_map (band_text names J) (range_with_len 0 (bands_in J)) ++ codes "</svg>\n")
+abbrev pub picture_text : Option Parts → List (Option Piece) → List Event → Text
+picture_text names pieces J = head_text J ++ (flat_map (band_text names pieces J) (range_with_len 0 (bands_in J)) ++ codes "</svg>\n")
 
 -- a journal is drawn if it has at most 20,000 events and no stamp above 20,000
 abbrev pub is_small : List Event → Bool
@@ -87,5 +89,5 @@ abbrev pub too_large : Text
 too_large = codes "<svg xmlns='http://www.w3.org/2000/svg' width='720' height='40'><text x='10' y='25'>a picture has at most 20,000 events and no stamp above 20,000: use abtview trace</text></svg>\n"
 
 -- the svg: the picture, or a line that says why there is none
-abbrev pub svg_text : Option Parts → List Event → Text
-svg_text names J = if is_small J then picture_text names J else too_large
+abbrev pub svg_text : Option Parts → List (Option Piece) → List Event → Text
+svg_text names pieces J = if is_small J then picture_text names pieces J else too_large

@@ -6,6 +6,7 @@ use Rattle.abt_machine.specs.declared.events.What.{What}
 use Rattle.abt_machine.specs.declared.events.What.TheVariants as what
 use Rattle.abt_machine.specs.declared.grammar.Format.TheVariants as format
 use Rattle.abt_machine.specs.Limits.{stream_limit}
+use Rattle.abt_view.specs.declared.notes.Note.{Note}
 use Rattle.abt_view.specs.declared.stretches.Cut.{Cut}
 use Rattle.abt_view.specs.declared.stretches.Jump.{Jump}
 use Rattle.abt_view.specs.declared.stretches.Stretch.{Stretch}
@@ -43,11 +44,12 @@ abbrev pub jumps_between : ℕ → ℕ → List Jump
 jumps_between from to = if nat_lt 1 (to - from) then record { from = from; to = to } ∷ [] else []
 
 -- a stretch that begins with an event, and a stretch with an event of its unit appended
-abbrev pub begun : ℕ → Event → Stretch
-begun u e = record { stream = e.stream.0; unit = u; since = e.stamp; until = e.stamp; last = e.stamp; events = e ∷ []; jumps = [] }
+abbrev pub begun : ℕ → Note → Stretch
+begun u n = record { stream = n.event.stream.0; unit = u; since = n.event.stamp; until = n.event.stamp; last = n.event.stamp; events = n ∷ []; jumps = [] }
 
-abbrev pub longer : Stretch → Event → Stretch
-longer stretch e = record stretch { until = e.stamp; last = e.stamp; events = stretch.events ++ e ∷ []; jumps = stretch.jumps ++ jumps_between stretch.last e.stamp }
+abbrev pub longer : Stretch → Note → Stretch
+longer stretch n =
+    record stretch { until = n.event.stamp; last = n.event.stamp; events = stretch.events ++ n ∷ []; jumps = stretch.jumps ++ jumps_between stretch.last n.event.stamp }
 
 -- a stretch in which the stream puts another unit
 abbrev pub beside : Event → Stretch → Stretch
@@ -62,28 +64,28 @@ abbrev pub closed : Cut → Cut
 closed cut = closed_by cut.past cut.held
 
 -- the stretches after an event of their stream, by what it means for the current one
-abbrev pub cut_by : Cut → Event → Turn → Cut
-cut_by cut e (Begins u) = record { past = (closed cut).past; held = Some (begun u e) }
-cut_by cut e GoesOn = record { past = cut.past; held = option_map (λ (stretch : Stretch). longer stretch e) cut.held }
-cut_by cut e Ends = closed cut
-cut_by cut e Stays = record { past = cut.past; held = option_map (beside e) cut.held }
+abbrev pub cut_by : Cut → Note → Turn → Cut
+cut_by cut n (Begins u) = record { past = (closed cut).past; held = Some (begun u n) }
+cut_by cut n GoesOn = record { past = cut.past; held = option_map (λ (stretch : Stretch). longer stretch n) cut.held }
+cut_by cut n Ends = closed cut
+cut_by cut n Stays = record { past = cut.past; held = option_map (beside n.event) cut.held }
 
 -- the stretches of stream s after an event of any stream: that of another stream changes nothing
-abbrev pub cut_at : ℕ → Cut → Event → Cut
-cut_at s cut e = if e.stream.0 == s then cut_by cut e (turn_of cut.held e.what) else cut
+abbrev pub cut_at : ℕ → Cut → Note → Cut
+cut_at s cut n = if n.event.stream.0 == s then cut_by cut n (turn_of cut.held n.event.what) else cut
 
 -- the state before the first event
 abbrev pub uncut : Cut
 uncut = record { past = []; held = None }
 
 -- the stretches of stream s in a journal
-abbrev pub stretches_of : List Event → ℕ → List Stretch
-stretches_of J s = (closed (fold (cut_at s) uncut J)).past
+abbrev pub stretches_of : List Note → ℕ → List Stretch
+stretches_of notes s = (closed (fold (cut_at s) uncut notes)).past
 
 -- how many streams a view shows: up to the greatest that has an event, and at most as many as a workload may have
 abbrev pub streams_in : List Event → ℕ
 streams_in J = min (stream_limit format.Three) (fold (λ n (e : Event). max n (e.stream.0 + 1)) 0 J)
 
--- the stretches of all streams that it shows, in order of stream
-abbrev pub all_stretches : List Event → List Stretch
-all_stretches J = flat_map (stretches_of J) (range_with_len 0 (streams_in J))
+-- the stretches of that many streams, in order of stream
+abbrev pub all_stretches : ℕ → List Note → List Stretch
+all_stretches streams notes = flat_map (stretches_of notes) (range_with_len 0 streams)

@@ -4,16 +4,19 @@ use Rattle.std.specs.List.{range_with_len}
 use Rattle.abt_machine.specs.declared.events.Code.{Code}
 use Rattle.abt_machine.specs.declared.events.Code.TheVariants as code
 use Rattle.abt_machine.specs.declared.events.Event.{Event}
+use Rattle.abt_machine.specs.declared.events.Piece.{Piece}
 use Rattle.abt_machine.specs.declared.events.What.{What}
 use Rattle.abt_machine.specs.declared.events.What.TheVariants as what
 use Rattle.abt_machine.specs.declared.workload.Parts.{Parts}
 use Rattle.abt_machine.specs.Words.{Text}
 use Rattle.abt_view.specs.declared.arrows.Arrow.{Arrow}
 use Rattle.abt_view.specs.declared.arrows.Spot.{Spot}
+use Rattle.abt_view.specs.declared.notes.Note.{Note}
 use Rattle.abt_view.specs.declared.stretches.Stretch.{Stretch}
 use Rattle.abt_view.specs.Args.{args_text, unit_end}
 use Rattle.abt_view.specs.Arrows.{arrows_of, spot_of}
 use Rattle.abt_view.specs.Kinds.{kind_word}
+use Rattle.abt_view.specs.Notes.{noted}
 use Rattle.abt_view.specs.Stretches.{all_stretches, streams_in}
 use Rattle.abt_view.specs.Texts.{around}
 
@@ -39,11 +42,11 @@ abbrev pub item_text : Text → Spot → Text → Text
 item_text phase at fraction = codes ",\n{\"ph\":\"" ++ (phase ++ (around (codes "\",\"pid\":0,\"tid\":") at.stream (codes ",\"ts\":") ++ around [] at.stamp fraction))
 
 -- the slice of an event, within that of its stretch, with its arguments: its unit, the operation that it names and the object of that, if
--- there is a workload that has it, and the code of a step or the value of a call
-abbrev pub moment_text : Option Parts → Event → Text
-moment_text names e =
-    item_text (codes "X") (spot_of e) (codes ".1")
-    ++ (codes ",\"dur\":0.6,\"cat\":\"event\",\"name\":\"" ++ (kind_word e.what ++ (codes "\"" ++ (args_text names e.what ++ codes "}"))))
+-- there is a workload that has it, the code of a step or the value of a call, and what a step put out
+abbrev pub moment_text : Option Parts → Note → Text
+moment_text names n =
+    item_text (codes "X") (spot_of n.event) (codes ".1")
+    ++ (codes ",\"dur\":0.6,\"cat\":\"event\",\"name\":\"" ++ (kind_word n.event.what ++ (codes "\"" ++ (args_text names n ++ codes "}"))))
 
 -- the instant of an event
 abbrev pub instant_text : Event → ℕ → Text
@@ -76,8 +79,8 @@ more_text e (what.End u c) = instant_text e u.0
 more_text e (what.Enter u) = enter_text e u.0
 more_text e (what.Leave u) = leave_text e
 
-abbrev pub event_text : Option Parts → Event → Text
-event_text names e = moment_text names e ++ more_text e e.what
+abbrev pub event_text : Option Parts → Note → Text
+event_text names n = moment_text names n ++ more_text n.event n.event.what
 
 -- a point of an arrow, in the slice of an event; its identifier is a string of the stamp of the put, followed by the stream in two digits
 abbrev pub point_text : Text → Arrow → Spot → Text
@@ -97,6 +100,6 @@ abbrev pub points_text : Arrow → Text
 points_text a = arrow_text a a.sent a.taken
 
 -- the trace
-abbrev pub trace_text : Option Parts → List Event → Text
-trace_text names J =
-    codes "{\"traceEvents\":[\n{\"ph\":\"M\",\"pid\":0,\"name\":\"process_name\",\"args\":{\"name\":\"abtrun\"}}" ++ (flat_map track_text (range_with_len 0 (streams_in J)) ++ (flat_map slice_text (all_stretches J) ++ (flat_map (event_text names) J ++ (flat_map points_text (arrows_of J) ++ codes "\n]}\n"))))
+abbrev pub trace_text : Option Parts → List (Option Piece) → List Event → Text
+trace_text names pieces J =
+    codes "{\"traceEvents\":[\n{\"ph\":\"M\",\"pid\":0,\"name\":\"process_name\",\"args\":{\"name\":\"abtrun\"}}" ++ (flat_map track_text (range_with_len 0 (streams_in J)) ++ (flat_map slice_text (all_stretches (streams_in J) (noted J pieces)) ++ (flat_map (event_text names) (noted J pieces) ++ (flat_map points_text (arrows_of J) ++ codes "\n]}\n"))))

@@ -1,6 +1,7 @@
 -- What the words of the program ask for, what it writes, and to what it comes.
 use Rattle.std.specs.Prelude.{◌≡◌, ◌≢◌, ℕ, if◌then◌else◌, List, [], ◌∷◌, Option, Some, None, codes}
 use Rattle.abt_machine.specs.declared.events.Event.{Event}
+use Rattle.abt_machine.specs.declared.events.Piece.{Piece}
 use Rattle.abt_machine.specs.declared.workload.Parts.{Parts}
 use Rattle.abt_machine.specs.Words.{Text}
 use Rattle.abt_view.specs.declared.about.TheConstants.{HELP}
@@ -74,10 +75,10 @@ AsksNothing words = AsksNoView words × AsksNoTopic words
 
 -- Views.
 
--- the view of a journal, with the operations that its events name if there is a workload
-abbrev pub view_text : View → Option Parts → List Event → Text
-view_text view.Svg names J = svg_text names J
-view_text view.Trace names J = trace_text names J
+-- the view of a journal, with the operations that its events name, and what its first events put out, if there is a workload
+abbrev pub view_text : View → Option Parts → List (Option Piece) → List Event → Text
+view_text view.Svg names pieces J = svg_text names pieces J
+view_text view.Trace names pieces J = trace_text names pieces J
 
 -- a trace shows every journal, and a picture those that are not too large
 abbrev pub conclusion_of : View → List Event → Conclusion

@@ -2,11 +2,13 @@
 
 ghost use Rattle.std.specs.Prelude.{◌≡◌, ◌++◌, OnOk, option_map};
 ghost use Rattle.abt_machine.specs.Lives.{unit_of as unit_of_event};
-ghost use Rattle.abt_view.specs.Args.{args_by, args_text, json_byte, json_text, object_arg, object_arg_of, object_at, operation_arg, outcome_arg, unit_end};
+ghost use Rattle.abt_view.specs.Args.{args_by, args_text, json_byte, json_text, object_arg, object_arg_of, object_at, operation_arg, outcome_arg, output_arg, unit_end};
+ghost use Rattle.abt_view.specs.Named.{output_of as output_in};
 
-use crate::named::{op_of, operation_of};
+use crate::named::{op_of, operation_of, output_of};
+use crate::notes::Note;
 use crate::texts::push_around;
-use abt_machine::{Event, Op, Want, What, Workload};
+use abt_machine::{Op, Want, What, Workload};
 use abt_report::name_of_code;
 use std::alloc::Global;
 
@@ -129,24 +131,53 @@ fn push_outcome(out: &mut Vec<u8>, what: What) -> Result<(), Want>
     }
 }
 
+// Appends what an event put out.
+fn push_output(out: &mut Vec<u8>, output: &Option<Vec<u8>>) -> Result<(), Want>
+    ensures { OnOk result (out.new.items ≡ out.old.items ++ output_arg (option_map (λ text. text.items) output.now)) }
+{
+    match output {
+        None => Ok(()),
+        Some(text) => {
+            out.extend_from_slice(b",\"output\":\"")?;
+            push_json(out, text)?;
+            out.extend_from_slice(b"\"")?;
+            Ok(())
+        }
+    }
+}
+
+// Appends what an event put out, if there is a workload that has its operation and that is known.
+fn push_output_of(
+    alloc: Global,
+    out: &mut Vec<u8>,
+    names: &Option<Workload>,
+    note: &Note,
+) -> Result<(), Want>
+    ensures { OnOk result (out.new.items ≡ out.old.items ++ output_arg (output_in names.now note.now)) }
+{
+    let output = output_of(alloc, names, note)?;
+    push_output(out, &output)
+}
+
 // Appends the arguments of an event of this unit.
 fn push_args_by(
     alloc: Global,
     out: &mut Vec<u8>,
     names: &Option<Workload>,
-    event: &Event,
+    note: &Note,
     unit: Option<u32>,
 ) -> Result<(), Want>
-    ensures { OnOk result (out.new.items ≡ out.old.items ++ args_by names.now event.now.what unit) }
+    ensures { OnOk result (out.new.items ≡ out.old.items ++ args_by names.now note.now unit) }
 {
     let Some(u) = unit else {
         return Ok(());
     };
-    let operation = operation_of(alloc, names, event.what)?;
+    let operation = operation_of(alloc, names, note.event.what)?;
     push_around(out, b",\"args\":{\"unit\":", u64::from(u), b"")?;
     push_operation(out, &operation)?;
-    push_object_of(out, op_of(names, event.what))?;
-    push_outcome(out, event.what)?;
+    push_object_of(out, op_of(names, note.event.what))?;
+    push_outcome(out, note.event.what)?;
+    push_output_of(alloc, out, names, note)?;
     out.extend_from_slice(b"}")?;
     Ok(())
 }
@@ -156,11 +187,11 @@ pub(crate) fn push_args(
     alloc: Global,
     out: &mut Vec<u8>,
     names: &Option<Workload>,
-    event: &Event,
+    note: &Note,
 ) -> Result<(), Want>
-    ensures { OnOk result (out.new.items ≡ out.old.items ++ args_text names.now event.now.what) }
+    ensures { OnOk result (out.new.items ≡ out.old.items ++ args_text names.now note.now) }
 {
-    push_args_by(alloc, out, names, event, unit_of(event.what))
+    push_args_by(alloc, out, names, note, unit_of(note.event.what))
 }
 
 // Appends the end of a slice whose name ends with the number of its unit.

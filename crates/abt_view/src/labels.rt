@@ -4,10 +4,11 @@ ghost use Rattle.std.specs.Prelude.{◌≡◌, ◌++◌, IfOk, OnOk, Some, optio
 ghost use Rattle.abt_view.specs.Labels.{label_text, labelled, labelled_by, labels_text, number_end, number_text, part_in, texts_of};
 
 use crate::bands::Band;
-use crate::named::{operation_of, push_xml};
+use crate::named::{push_xml, shown_of};
+use crate::notes::Note;
 use crate::stretches::Stretch;
 use crate::texts::push_around;
-use abt_machine::{Event, Want, Workload};
+use abt_machine::{Want, Workload};
 use std::alloc::Global;
 use std::marker::Model;
 
@@ -108,18 +109,18 @@ impl Row {
         }
     }
 
-    // Appends the operation that an event names, if there is a workload that has it and it has room.
+    // Appends the operation that an event names, with what it put out, if there is a workload that has it and it has room.
     fn take(
         &mut self,
         alloc: Global,
         part: Part,
         names: &Option<Workload>,
-        event: &Event,
+        note: &Note,
     ) -> Result<(), Want>
-        ensures { OnOk result (self.new ≡ labelled part names.now self.old event.now) }
+        ensures { OnOk result (self.new ≡ labelled part names.now self.old note.now) }
     {
-        let operation = operation_of(alloc, names, event.what)?;
-        self.add_named(part, event.stamp, &operation)
+        let operation = shown_of(alloc, names, note)?;
+        self.add_named(part, note.event.stamp, &operation)
     }
 }
 
@@ -136,8 +137,8 @@ fn labels(
         covered: end_of_number(bar.unit),
         text: Vec::new(alloc),
     };
-    for event in bar.events.items() {
-        row.take(alloc, part, names, event)?;
+    for note in bar.events.items() {
+        row.take(alloc, part, names, note)?;
     }
     let Row { covered: _, text } = row;
     Ok(text)

@@ -5,10 +5,11 @@ ghost use Rattle.abt_machine.specs.Operations.{IsDeclared};
 ghost use Rattle.abt_machine.specs.Texts.{event_words};
 ghost use Rattle.abt_machine.specs.Words.{line_of};
 ghost use Rattle.abt_machine.specs.Workloads.{op_at};
-ghost use Rattle.abt_view.specs.Named.{after_line, is_no_character as is_none_of, named_line, op_named as op_named_by, op_of as op_of_event, op_text, operation_of as operation_of_event, xml_after, xml_byte, xml_byte_after, xml_text};
+ghost use Rattle.abt_view.specs.Named.{after_line, is_no_character as is_none_of, named_line, op_named as op_named_by, op_of as op_of_event, op_text, operation_of as operation_of_event, output_after, output_at as output_by, output_of as output_in, shown_of as shown_in, xml_after, xml_byte, xml_byte_after, xml_text};
 
-use abt_lines::end_line;
-use abt_machine::{Event, Items, Op, UnitNo, Want, What, Workload};
+use crate::notes::Note;
+use abt_lines::{end_line, push_number};
+use abt_machine::{Event, Items, Op, Piece, UnitNo, Want, What, Workload};
 use abt_report::journal_text;
 use abt_workload::push_operation;
 use std::alloc::Global;
@@ -76,6 +77,74 @@ pub(crate) fn operation_of(
             Ok(Some(text))
         }
     }
+}
+
+// What an operation put out, if that is known: a say its word, and a print a number.
+fn output_at(
+    alloc: Global,
+    w: &Workload,
+    op: Op,
+    piece: Option<Piece>,
+) -> Result<Option<Vec<u8>>, Want>
+    requires { IsDeclared w.now op }
+    ensures { IfOk result (λ output. option_map (λ text. text.items) output ≡ output_by w.now op piece) }
+{
+    match (op, piece) {
+        (Op::Say(word), Some(_)) => {
+            let text = Vec::from_slice(alloc, w.word(word).as_bytes())?;
+            Ok(Some(text))
+        }
+        (Op::Print, Some(Piece::Number(n))) => {
+            let mut text = Vec::new(alloc);
+            push_number(&mut text, n)?;
+            Ok(Some(text))
+        }
+        _ => Ok(None),
+    }
+}
+
+// What the operation that an event names put out, if there is a workload that has it and that is known.
+pub(crate) fn output_of(
+    alloc: Global,
+    names: &Option<Workload>,
+    note: &Note,
+) -> Result<Option<Vec<u8>>, Want>
+    ensures { IfOk result (λ output. option_map (λ text. text.items) output ≡ output_in names.now note.now) }
+{
+    let Some(w) = names else {
+        return Ok(None);
+    };
+    w.known();
+    match op_named(w, note.event.what) {
+        None => Ok(None),
+        Some(op) => output_at(alloc, w, op, note.piece),
+    }
+}
+
+// An operation with what it put out, if that is known.
+fn with_output(mut operation: Vec<u8>, output: &Option<Vec<u8>>) -> Result<Vec<u8>, Want>
+    ensures { IfOk result (λ text. text.items ≡ output_after operation.items (option_map (λ text. text.items) output.now)) }
+{
+    if let Some(output) = output {
+        operation.extend_from_slice(b": ")?;
+        operation.extend_from_slice(output)?;
+    }
+    Ok(operation)
+}
+
+// The operation that an event names, with what it put out, if there is a workload that has it.
+pub(crate) fn shown_of(
+    alloc: Global,
+    names: &Option<Workload>,
+    note: &Note,
+) -> Result<Option<Vec<u8>>, Want>
+    ensures { IfOk result (λ shown. option_map (λ text. text.items) shown ≡ shown_in names.now note.now) }
+{
+    let Some(operation) = operation_of(alloc, names, note.event.what)? else {
+        return Ok(None);
+    };
+    let output = output_of(alloc, names, note)?;
+    Ok(Some(with_output(operation, &output)?))
 }
 
 // Appends a byte to a text in an svg.
@@ -156,17 +225,17 @@ fn push_event(alloc: Global, out: &mut Vec<u8>, event: &Event) -> Result<(), Wan
     Ok(())
 }
 
-// Appends the line of an event, with the operation that it names, if there is a workload that has it.
+// Appends the line of an event, with the operation that it names and what that put out, if there is a workload that has it.
 pub(crate) fn push_named_line(
     alloc: Global,
     out: &mut Vec<u8>,
     names: &Option<Workload>,
-    event: &Event,
+    note: &Note,
 ) -> Result<(), Want>
-    ensures { OnOk result (out.new.items ≡ out.old.items ++ named_line names.now event.now) }
+    ensures { OnOk result (out.new.items ≡ out.old.items ++ named_line names.now note.now) }
 {
-    let operation = operation_of(alloc, names, event.what)?;
-    push_event(alloc, out, event)?;
+    let operation = shown_of(alloc, names, note)?;
+    push_event(alloc, out, &note.event)?;
     push_after_line(out, &operation)?;
     end_line(out)
 }

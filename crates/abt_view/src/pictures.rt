@@ -8,17 +8,19 @@ ghost use Rattle.abt_view.specs.Kinds.{greatest_stamp};
 ghost use Rattle.abt_view.specs.Picture.{axis_text, band_text, column_text, columns_text, counts_text, head_text, is_small, lane_text, names_text, picture_height as height_of, picture_text, picture_width as width_of, size_text, svg_text, tick_text, ticks_text, window_text};
 ghost use Rattle.abt_view.specs.Bands.{bands_in};
 ghost use Rattle.abt_view.specs.Shapes.{bar_in, frame_in, lines_in, mark_in};
-ghost use Rattle.abt_view.specs.Stretches.{all_stretches as stretches_of_all};
+ghost use Rattle.abt_view.specs.Notes.{noted};
+ghost use Rattle.abt_view.specs.Stretches.{all_stretches as stretches_of_all, streams_in};
 
 use crate::arrows::{Arrow, all_arrows};
 use crate::bands::{Band, LANE, band_height, count_bands};
 use crate::frames::{Frame, all_frames};
 use crate::kinds::{count_refused, greatest_stamp};
+use crate::notes::take_notes;
 use crate::shapes::{push_arrow_in, push_bar_in, push_frame_in, push_mark_in};
 use crate::stretches::{Stretch, all_stretches, count_streams};
 use crate::style::{LEGEND, STYLE};
 use crate::texts::push_around;
-use abt_machine::{Event, Want, Workload};
+use abt_machine::{Event, Piece, Want, Workload};
 use abt_report::count_steps;
 use std::alloc::Global;
 
@@ -265,6 +267,7 @@ fn push_band(
     out: &mut Vec<u8>,
     names: &Option<Workload>,
     journal: &[Event],
+    pieces: &[Option<Piece>],
     frames: &[Frame],
     bars: &[Stretch],
     arrows: &[Arrow],
@@ -272,9 +275,9 @@ fn push_band(
 ) -> Result<(), Want>
     requires number { n ≤ 10 }
     requires frames { frames.now ≡ frames_of_all journal.now }
-    requires bars { bars.now ≡ stretches_of_all journal.now }
+    requires bars { bars.now ≡ stretches_of_all (streams_in journal.now) (noted journal.now pieces.now) }
     requires arrows { arrows.now ≡ arrows_of journal.now }
-    ensures { OnOk result (out.new.items ≡ out.old.items ++ band_text names.now journal.now n) }
+    ensures { OnOk result (out.new.items ≡ out.old.items ++ band_text names.now pieces.now journal.now n) }
 {
     let band = Band::at(n);
     push_axis(out, journal, n)?;
@@ -292,27 +295,36 @@ fn push_bands(
     out: &mut Vec<u8>,
     names: &Option<Workload>,
     journal: &[Event],
+    pieces: &[Option<Piece>],
 ) -> Result<(), Want>
     requires { greatest_stamp journal.now ≤ 20000 }
-    ensures { OnOk result (out.new.items ≡ out.old.items ++ flat_map (band_text names.now journal.now) (range_with_len 0 (bands_in journal.now))) }
+    ensures { OnOk result (out.new.items ≡ out.old.items ++ flat_map (band_text names.now pieces.now journal.now) (range_with_len 0 (bands_in journal.now))) }
 {
     let frames = all_frames(alloc, journal)?;
-    let bars = all_stretches(alloc, journal)?;
+    let notes = take_notes(alloc, journal, pieces)?;
+    let bars = all_stretches(alloc, count_streams(journal), &notes)?;
     let arrows = all_arrows(alloc, journal)?;
     for n in 0..count_bands(journal) {
-        push_band(alloc, out, names, journal, &frames, &bars, &arrows, n)?;
+        push_band(
+            alloc, out, names, journal, pieces, &frames, &bars, &arrows, n,
+        )?;
     }
     Ok(())
 }
 
 // The picture of a journal without a stamp above 20,000.
-fn picture(alloc: Global, names: &Option<Workload>, journal: &[Event]) -> Result<Vec<u8>, Want>
+fn picture(
+    alloc: Global,
+    names: &Option<Workload>,
+    journal: &[Event],
+    pieces: &[Option<Piece>],
+) -> Result<Vec<u8>, Want>
     requires { greatest_stamp journal.now ≤ 20000 }
-    ensures { IfOk result (λ text. text.items ≡ picture_text names.now journal.now) }
+    ensures { IfOk result (λ text. text.items ≡ picture_text names.now pieces.now journal.now) }
 {
     let mut out = Vec::new(alloc);
     push_head(&mut out, journal)?;
-    push_bands(alloc, &mut out, names, journal)?;
+    push_bands(alloc, &mut out, names, journal, pieces)?;
     out.extend_from_slice(b"</svg>\n")?;
     Ok(out)
 }
@@ -324,13 +336,18 @@ pub fn is_drawn(journal: &[Event]) -> bool
     journal.len() as u64 <= MOST_DRAWN && greatest_stamp(journal) <= MOST_DRAWN
 }
 
-/// The picture of a journal as an svg, with the operations that its events name if there is a workload. If the journal has more than
-/// 20,000 events, or a stamp above 20,000, the svg is one line of text that says so.
-pub fn svg(alloc: Global, names: &Option<Workload>, journal: &[Event]) -> Result<Vec<u8>, Want>
-    ensures { IfOk result (λ text. text.items ≡ svg_text names.now journal.now) }
+/// The picture of a journal as an svg, with the operations that its events name, and the pieces that its first events put out, if there
+/// is a workload. If the journal has more than 20,000 events, or a stamp above 20,000, the svg is one line of text that says so.
+pub fn svg(
+    alloc: Global,
+    names: &Option<Workload>,
+    journal: &[Event],
+    pieces: &[Option<Piece>],
+) -> Result<Vec<u8>, Want>
+    ensures { IfOk result (λ text. text.items ≡ svg_text names.now pieces.now journal.now) }
 {
     if is_drawn(journal) {
-        return picture(alloc, names, journal);
+        return picture(alloc, names, journal, pieces);
     }
     Ok(Vec::from_slice(
         alloc,

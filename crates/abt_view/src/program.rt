@@ -11,6 +11,7 @@ ghost use Rattle.abt_view.specs.Views.{Asks, AsksNoTopic, Request, request, topi
 
 use crate::about::{Topic, asked_topic};
 use crate::views::{Conclusion, View, asked, conclude, view_text};
+use abt_check::put_out;
 use abt_run::fetch;
 use abt_shell::{Stop, fetch_journal, more_of, stop_by, write_out};
 use abt_source::{Files, Sink};
@@ -44,14 +45,14 @@ fn prepare_view<F: Files>(
     ensures later { F.faults files.old ≤ F.faults files.new }
 {
     let journal = fetch_journal(alloc, file, files)?;
-    let text = view_text(alloc, view, &None, journal.items())?;
+    let text = view_text(alloc, view, &None, journal.items(), &[])?;
     Ok(Prepared {
         text,
         conclusion: conclude(view, journal.items()),
     })
 }
 
-// The view of the journal in a file, with the operations of the workload in another one, which is read first.
+// The view of the journal in a file, with the operations of the workload in another one, which is read first, and what they put out.
 fn prepare_named<F: Files>(
     alloc: Global,
     view: View,
@@ -70,7 +71,8 @@ fn prepare_named<F: Files>(
 {
     let w = fetch(alloc, workload, files)?;
     let journal = fetch_journal(alloc, journal, files)?;
-    let text = view_text(alloc, view, &Some(w), journal.items())?;
+    let pieces = put_out(alloc, &w, journal.items())?;
+    let text = view_text(alloc, view, &Some(w), journal.items(), &pieces)?;
     Ok(Prepared {
         text,
         conclusion: conclude(view, journal.items()),

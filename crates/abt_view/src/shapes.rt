@@ -10,9 +10,10 @@ use crate::frames::Frame;
 use crate::kinds::word;
 use crate::labels::push_texts;
 use crate::named::push_named_line;
+use crate::notes::Note;
 use crate::stretches::{Jump, Stretch};
 use crate::texts::push_around;
-use abt_machine::{Event, Journal, Want, Workload};
+use abt_machine::{Event, Want, Workload};
 use std::alloc::Global;
 
 // Appends the place of a bar, and its colour.
@@ -76,17 +77,17 @@ fn push_hatched(out: &mut Vec<u8>, bar: &Stretch) -> Result<(), Want>
     Ok(())
 }
 
-// Appends the lines of events, each with the operation that it names, if there is a workload that has it.
+// Appends the lines of events, each with the operation that it names and what that put out, if there is a workload that has it.
 fn push_named_lines(
     alloc: Global,
     out: &mut Vec<u8>,
     names: &Option<Workload>,
-    events: &Journal,
+    notes: &[Note],
 ) -> Result<(), Want>
-    ensures { OnOk result (out.new.items ≡ out.old.items ++ flat_map (named_line names.now) events.now) }
+    ensures { OnOk result (out.new.items ≡ out.old.items ++ flat_map (named_line names.now) notes.now) }
 {
-    for event in events.items() {
-        push_named_line(alloc, out, names, event)?;
+    for note in notes {
+        push_named_line(alloc, out, names, note)?;
     }
     Ok(())
 }
@@ -101,7 +102,7 @@ fn push_title(
     ensures { OnOk result (out.new.items ≡ out.old.items ++ bar_title names.now bar.now) }
 {
     out.extend_from_slice(b"<title>")?;
-    push_named_lines(alloc, out, names, &bar.events)?;
+    push_named_lines(alloc, out, names, bar.events.items())?;
     out.extend_from_slice(b"</title></g>\n")?;
     Ok(())
 }

@@ -3,7 +3,8 @@
 ghost use Rattle.std.specs.Prelude.{◌≡◌, ◌++◌, ◌∷◌, [], IfOk};
 ghost use Rattle.abt_view.specs.Stretches.{beside as beside_by, cut_at, all_stretches as stretches_of_all, begun, closed, goes_on_or_begins as turn_by, goes_on_or_stays as stays_by, is_held as is_held_by, jumps_between, longer as longer_by, streams_in, stretches_of, turn_of as turn_at, cut_by};
 
-use abt_machine::{Event, Format, Items, Journal, Want, What};
+use crate::notes::Note;
+use abt_machine::{Event, Format, Items, Want, What};
 use std::alloc::Global;
 
 /// From the stamp of an event of a stream to that of its next, with a stamp between.
@@ -22,7 +23,7 @@ pub struct Stretch {
     pub since: u64,
     pub until: u64,
     pub last: u64,
-    pub events: Journal,
+    pub events: Items<Note>,
     pub jumps: Items<Jump>,
 }
 
@@ -106,15 +107,29 @@ fn notice(jumps: Items<Jump>, from: u64, to: u64) -> Result<Items<Jump>, Want>
     Ok(jumps)
 }
 
-// A stretch that begins with an event. What happened has a name here and below, since the prover makes no plan for the append of
-// a type that is not named.
-fn begin(alloc: Global, u: u32, event: Event) -> Result<Stretch, Want>
-    ensures { IfOk result (λ stretch. stretch ≡ begun u event) }
+// The events with another appended. What happened has a name here, since the prover makes no plan for the append of a type that is not
+// named.
+fn append(events: Items<Note>, note: &Note) -> Result<Items<Note>, Want>
+    ensures { IfOk result (λ more. more ≡ events ++ note.now ∷ []) }
 {
-    let stream = event.stream.0;
-    let stamp = event.stamp;
-    let what: What = event.what;
-    let events = more(Items::new(Vec::new(alloc)), Event { what, ..event })?;
+    let what: What = note.event.what;
+    let event = Event { what, ..note.event };
+    more(
+        events,
+        Note {
+            event,
+            piece: note.piece,
+        },
+    )
+}
+
+// A stretch that begins with an event.
+fn begin(alloc: Global, u: u32, note: Note) -> Result<Stretch, Want>
+    ensures { IfOk result (λ stretch. stretch ≡ begun u note) }
+{
+    let stream = note.event.stream.0;
+    let stamp = note.event.stamp;
+    let events = append(Items::new(Vec::new(alloc)), &note)?;
     Ok(Stretch {
         stream,
         unit: u,
@@ -127,8 +142,8 @@ fn begin(alloc: Global, u: u32, event: Event) -> Result<Stretch, Want>
 }
 
 // A stretch with an event of its unit appended.
-fn longer(stretch: Stretch, event: Event) -> Result<Stretch, Want>
-    ensures { IfOk result (λ longer. longer ≡ longer_by stretch event) }
+fn longer(stretch: Stretch, note: Note) -> Result<Stretch, Want>
+    ensures { IfOk result (λ longer. longer ≡ longer_by stretch note) }
 {
     let Stretch {
         stream,
@@ -139,9 +154,8 @@ fn longer(stretch: Stretch, event: Event) -> Result<Stretch, Want>
         events,
         jumps,
     } = stretch;
-    let until = event.stamp;
-    let what: What = event.what;
-    let events = more(events, Event { what, ..event })?;
+    let until = note.event.stamp;
+    let events = append(events, &note)?;
     let jumps = notice(jumps, last, until)?;
     Ok(Stretch {
         stream,
@@ -194,11 +208,11 @@ fn close(cut: Cut) -> Result<Cut, Want>
 }
 
 // Ends the current stretch, and begins another with an event.
-fn begin_another(alloc: Global, cut: Cut, u: u32, event: Event) -> Result<Cut, Want>
-    ensures { IfOk result (λ new. new ≡ cut_by cut event (Turn.Begins u)) }
+fn begin_another(alloc: Global, cut: Cut, u: u32, note: Note) -> Result<Cut, Want>
+    ensures { IfOk result (λ new. new ≡ cut_by cut note (Turn.Begins u)) }
 {
     let Cut { past, held: _ } = close(cut)?;
-    let stretch = begin(alloc, u, event)?;
+    let stretch = begin(alloc, u, note)?;
     Ok(Cut {
         past,
         held: Some(stretch),
@@ -206,14 +220,14 @@ fn begin_another(alloc: Global, cut: Cut, u: u32, event: Event) -> Result<Cut, W
 }
 
 // Appends an event to the current stretch.
-fn go_on(cut: Cut, event: Event) -> Result<Cut, Want>
-    ensures { IfOk result (λ new. new ≡ cut_by cut event Turn.GoesOn) }
+fn go_on(cut: Cut, note: Note) -> Result<Cut, Want>
+    ensures { IfOk result (λ new. new ≡ cut_by cut note Turn.GoesOn) }
 {
     let Cut { past, held } = cut;
     match held {
         None => Ok(Cut { past, held: None }),
         Some(stretch) => {
-            let stretch = longer(stretch, event)?;
+            let stretch = longer(stretch, note)?;
             Ok(Cut {
                 past,
                 held: Some(stretch),
@@ -223,14 +237,14 @@ fn go_on(cut: Cut, event: Event) -> Result<Cut, Want>
 }
 
 // Goes on with the current stretch, if there is one, while the stream puts another unit.
-fn stay(cut: Cut, event: Event) -> Result<Cut, Want>
-    ensures { IfOk result (λ new. new ≡ cut_by cut event Turn.Stays) }
+fn stay(cut: Cut, note: Note) -> Result<Cut, Want>
+    ensures { IfOk result (λ new. new ≡ cut_by cut note Turn.Stays) }
 {
     let Cut { past, held } = cut;
     match held {
         None => Ok(Cut { past, held: None }),
         Some(stretch) => {
-            let stretch = beside(stretch, event)?;
+            let stretch = beside(stretch, note.event)?;
             Ok(Cut {
                 past,
                 held: Some(stretch),
@@ -240,39 +254,46 @@ fn stay(cut: Cut, event: Event) -> Result<Cut, Want>
 }
 
 // Changes the stretches as an event of their stream does, by what it means for the current one.
-fn take_turn(alloc: Global, cut: Cut, event: Event, turn: Turn) -> Result<Cut, Want>
-    ensures { IfOk result (λ new. new ≡ cut_by cut event turn) }
+fn take_turn(alloc: Global, cut: Cut, note: Note, turn: Turn) -> Result<Cut, Want>
+    ensures { IfOk result (λ new. new ≡ cut_by cut note turn) }
 {
     match turn {
-        Turn::Begins(u) => begin_another(alloc, cut, u, event),
-        Turn::GoesOn => go_on(cut, event),
+        Turn::Begins(u) => begin_another(alloc, cut, u, note),
+        Turn::GoesOn => go_on(cut, note),
         Turn::Ends => close(cut),
-        Turn::Stays => stay(cut, event),
+        Turn::Stays => stay(cut, note),
     }
 }
 
-// Changes the stretches of stream s as an event of any stream does.
-fn advance(alloc: Global, s: u64, cut: Cut, event: Event) -> Result<Cut, Want>
-    ensures { IfOk result (λ new. new ≡ cut_at s cut event) }
+// What an event of their stream means for the current one of these stretches.
+fn turn_in(cut: &Cut, note: &Note) -> Turn
+    ensures { result ≡ turn_at cut.now.held note.now.event.what }
 {
-    if u64::from(event.stream.0) == s {
-        let turn = turn_of(&cut.held, event.what);
-        take_turn(alloc, cut, event, turn)
+    turn_of(&cut.held, note.event.what)
+}
+
+// Changes the stretches of stream s as an event of any stream does.
+fn advance(alloc: Global, s: u64, cut: Cut, note: Note) -> Result<Cut, Want>
+    ensures { IfOk result (λ new. new ≡ cut_at s cut note) }
+{
+    if u64::from(note.event.stream.0) == s {
+        let turn = turn_in(&cut, &note);
+        take_turn(alloc, cut, note, turn)
     } else {
         Ok(cut)
     }
 }
 
 // The stretches of stream s.
-fn stretches(alloc: Global, journal: &[Event], s: u64) -> Result<Items<Stretch>, Want>
-    ensures { IfOk result (λ stretches. stretches ≡ stretches_of journal.now s) }
+fn stretches(alloc: Global, notes: &[Note], s: u64) -> Result<Items<Stretch>, Want>
+    ensures { IfOk result (λ stretches. stretches ≡ stretches_of notes.now s) }
 {
     let mut cut = Cut {
         past: Items::new(Vec::new(alloc)),
         held: None,
     };
-    for event in journal {
-        cut = advance(alloc, s, cut, *event)?;
+    for note in notes {
+        cut = advance(alloc, s, cut, *note)?;
     }
     let Cut { past, held: _ } = close(cut)?;
     Ok(past)
@@ -289,14 +310,13 @@ pub(crate) fn count_streams(journal: &[Event]) -> u64
     count.min(u64::from(Format::Three.stream_limit()))
 }
 
-/// The stretches of the streams that a view shows, in order of stream, and within a stream in order of time.
-pub fn all_stretches(alloc: Global, journal: &[Event]) -> Result<Vec<Stretch>, Want>
-    ensures { IfOk result (λ all. all.items ≡ stretches_of_all journal.now) }
+/// The stretches of that many streams, in order of stream, and within a stream in order of time.
+pub fn all_stretches(alloc: Global, streams: u64, notes: &[Note]) -> Result<Vec<Stretch>, Want>
+    ensures { IfOk result (λ all. all.items ≡ stretches_of_all streams notes.now) }
 {
     let mut all = Vec::new(alloc);
-    let streams = count_streams(journal);
     for s in 0..streams {
-        let mut found = stretches(alloc, journal, s)?.into_items();
+        let mut found = stretches(alloc, notes, s)?.into_items();
         all.append(&mut found)?;
     }
     Ok(all)

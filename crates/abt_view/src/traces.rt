@@ -7,9 +7,10 @@ ghost use Rattle.abt_view.specs.Trace.{arrow_text, call_text, enter_text, event_
 use crate::args::{push_args, push_unit_end};
 use crate::arrows::{Arrow, Spot, all_arrows, spot_at};
 use crate::kinds::word;
+use crate::notes::{Note, take_notes};
 use crate::stretches::{Stretch, all_stretches, count_streams};
 use crate::texts::push_around;
-use abt_machine::{Code, Event, Want, What, Workload};
+use abt_machine::{Code, Event, Piece, Want, What, Workload};
 use std::alloc::Global;
 
 // Appends the name of a stream's track.
@@ -102,15 +103,15 @@ fn push_moment(
     alloc: Global,
     out: &mut Vec<u8>,
     names: &Option<Workload>,
-    event: &Event,
+    note: &Note,
 ) -> Result<(), Want>
-    ensures { OnOk result (out.new.items ≡ out.old.items ++ moment_text names.now event.now) }
+    ensures { OnOk result (out.new.items ≡ out.old.items ++ moment_text names.now note.now) }
 {
-    push_item(out, b"X", spot_at(event), b".1")?;
+    push_item(out, b"X", spot_at(&note.event), b".1")?;
     out.extend_from_slice(b",\"dur\":0.6,\"cat\":\"event\",\"name\":\"")?;
-    out.extend_from_slice(word(event.what))?;
+    out.extend_from_slice(word(note.event.what))?;
     out.extend_from_slice(b"\"")?;
-    push_args(alloc, out, names, event)?;
+    push_args(alloc, out, names, note)?;
     out.extend_from_slice(b"}")?;
     Ok(())
 }
@@ -189,12 +190,12 @@ fn push_event(
     alloc: Global,
     out: &mut Vec<u8>,
     names: &Option<Workload>,
-    event: &Event,
+    note: &Note,
 ) -> Result<(), Want>
-    ensures { OnOk result (out.new.items ≡ out.old.items ++ event_text names.now event.now) }
+    ensures { OnOk result (out.new.items ≡ out.old.items ++ event_text names.now note.now) }
 {
-    push_moment(alloc, out, names, event)?;
-    push_more(out, event, event.what)
+    push_moment(alloc, out, names, note)?;
+    push_more(out, &note.event, note.event.what)
 }
 
 // Appends the items of events.
@@ -202,12 +203,12 @@ fn push_events(
     alloc: Global,
     out: &mut Vec<u8>,
     names: &Option<Workload>,
-    journal: &[Event],
+    notes: &[Note],
 ) -> Result<(), Want>
-    ensures { OnOk result (out.new.items ≡ out.old.items ++ flat_map (event_text names.now) journal.now) }
+    ensures { OnOk result (out.new.items ≡ out.old.items ++ flat_map (event_text names.now) notes.now) }
 {
-    for event in journal {
-        push_event(alloc, out, names, event)?;
+    for note in notes {
+        push_event(alloc, out, names, note)?;
     }
     Ok(())
 }
@@ -265,11 +266,18 @@ fn push_arrows(out: &mut Vec<u8>, arrows: &[Arrow]) -> Result<(), Want>
     Ok(())
 }
 
-/// The trace of a journal, as JSON in the trace event format, with the operations and objects that its events name if there is a workload.
-pub fn trace(alloc: Global, names: &Option<Workload>, journal: &[Event]) -> Result<Vec<u8>, Want>
-    ensures { IfOk result (λ text. text.items ≡ trace_text names.now journal.now) }
+/// The trace of a journal, as JSON in the trace event format, with the operations and objects that its events name, and the pieces that
+/// its first events put out, if there is a workload.
+pub fn trace(
+    alloc: Global,
+    names: &Option<Workload>,
+    journal: &[Event],
+    pieces: &[Option<Piece>],
+) -> Result<Vec<u8>, Want>
+    ensures { IfOk result (λ text. text.items ≡ trace_text names.now pieces.now journal.now) }
 {
-    let slices = all_stretches(alloc, journal)?;
+    let notes = take_notes(alloc, journal, pieces)?;
+    let slices = all_stretches(alloc, count_streams(journal), &notes)?;
     let arrows = all_arrows(alloc, journal)?;
     let mut out = Vec::new(alloc);
     out.extend_from_slice(
@@ -277,7 +285,7 @@ pub fn trace(alloc: Global, names: &Option<Workload>, journal: &[Event]) -> Resu
     )?;
     push_tracks(&mut out, count_streams(journal))?;
     push_slices(&mut out, &slices)?;
-    push_events(alloc, &mut out, names, journal)?;
+    push_events(alloc, &mut out, names, &notes)?;
     push_arrows(&mut out, &arrows)?;
     out.extend_from_slice(b"\n]}\n")?;
     Ok(out)

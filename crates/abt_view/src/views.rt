@@ -5,7 +5,7 @@ ghost use Rattle.abt_view.specs.Views.{Asks, AsksNoView, IsNoView, conclusion_of
 
 use crate::pictures::{is_drawn, svg};
 use crate::traces::trace;
-use abt_machine::{Event, Want, Workload};
+use abt_machine::{Event, Piece, Want, Workload};
 use std::alloc::Global;
 
 /// What is shown of a journal: a picture, or a trace for a trace viewer.
@@ -79,18 +79,20 @@ pub fn asked(words: &[String]) -> Option<(View, &str, Option<&str>)>
     }
 }
 
-/// The text of a view, with the operations that the journal's events name if there is a workload.
+/// The text of a view, with the operations that the journal's events name, and the pieces that its first events put out, if there is a
+/// workload.
 pub fn view_text(
     alloc: Global,
     view: View,
     names: &Option<Workload>,
     journal: &[Event],
+    pieces: &[Option<Piece>],
 ) -> Result<Vec<u8>, Want>
-    ensures { IfOk result (λ text. text.items ≡ text_of_view view names.now journal.now) }
+    ensures { IfOk result (λ text. text.items ≡ text_of_view view names.now pieces.now journal.now) }
 {
     match view {
-        View::Svg => svg(alloc, names, journal),
-        View::Trace => trace(alloc, names, journal),
+        View::Svg => svg(alloc, names, journal, pieces),
+        View::Trace => trace(alloc, names, journal, pieces),
     }
 }
 

@@ -3,7 +3,7 @@
 ghost use Rattle.std.specs.Prelude.{◌≤◌};
 ghost use Rattle.abt_machine.specs.Limits.{function_limit};
 
-use abt_flow::{Flow, confluent, find_flow};
+use abt_flow::{Flow, Violation, find_flow, first_violation};
 use abt_functions::TextFunctions;
 use abt_machine::{Piece, Want, Workload};
 use abt_work::{AnyWork, Work};
@@ -30,23 +30,34 @@ const SETS: &str = "unit 1 ult at 0\nset 1\neset 0\n";
 
 const SETS_LATER: &str = "unit 1 ult later\nset 1\neset 0\n";
 
-// The access of the pool, unit 0's operations, unit 1, and whether the workload is confluent.
-static CONFLUENCE: [(&str, &str, &str, bool); 10] = [
-    (OPEN, "ewait 0\n", SETS, true),
-    (OPEN, "create 1 0\n", SETS_LATER, true),
-    ("mpsc to 0", "create 1 0\n", SETS_LATER, true),
-    (OPEN, "call 0\ncalc gcd 0\n", SETS, true),
-    (OPEN, "trylock 2\n", SETS, false),
-    (OPEN, "rdlock 3\n", SETS, false),
-    (OPEN, "eset 0\n", SETS, false),
+// The access of the pool, unit 0's operations, unit 1, and the unit and the position of the first operation by which the workload
+// is not confluent.
+static CONFLUENCE: [(&str, &str, &str, Option<(u32, u32)>); 13] = [
+    (OPEN, "ewait 0\n", SETS, None),
+    (OPEN, "create 1 0\n", SETS_LATER, None),
+    ("mpsc to 0", "create 1 0\n", SETS_LATER, None),
+    (OPEN, "call 0\ncalc gcd 0\n", SETS, None),
+    (OPEN, "trylock 2\n", SETS, Some((0, 0))),
+    (OPEN, "add 1\nrdlock 3\nrdlock 3\n", SETS, Some((0, 1))),
+    // the second operation that sets or creates is the one that is named
+    (OPEN, "eset 0\n", SETS, Some((1, 1))),
+    (OPEN, "eset 0\neset 1\neset 0\n", SETS, Some((0, 2))),
     (
         OPEN,
         "create 1 0\n",
         "unit 1 ult later\ncreate 1 0\n",
-        false,
+        Some((1, 0)),
     ),
-    (OPEN, "create 1 0\n", SETS, false),
-    ("priv of 0", "create 1 0\n", SETS_LATER, false),
+    (OPEN, "create 1 0\n", SETS, Some((0, 0))),
+    ("priv of 0", "create 1 0\n", SETS_LATER, Some((0, 0))),
+    // one that depends on the schedule comes before or after a second one that sets
+    (
+        OPEN,
+        "eset 0\n",
+        "unit 1 ult at 0\neset 0\nexit\n",
+        Some((1, 0)),
+    ),
+    (OPEN, "eset 0\nexit\n", SETS, Some((0, 1))),
 ];
 
 // It calls a function, and computes with what that returns.
@@ -119,17 +130,23 @@ fn workload(
     Ok(read(alloc, text.as_bytes())?)
 }
 
-// Whether the workload of two units is confluent.
-fn is_confluent(alloc: Global, access: &str, first: &str, second: &str) -> Result<bool, Fail> {
+// The first operation by which the workload of two units is not confluent.
+fn violation_in(
+    alloc: Global,
+    access: &str,
+    first: &str,
+    second: &str,
+) -> Result<Option<Violation>, Fail> {
     let w = workload(alloc, access, TWO, first, second)?;
-    Ok(confluent(alloc, &w)?)
+    Ok(first_violation(alloc, &w)?)
 }
 
 #[test]
 fn each_condition_is_asked(rt: HostRuntime) -> Result<(), Fail> {
     for (access, first, second, wanted) in &CONFLUENCE {
-        let is = is_confluent(rt.alloc(), access, first, second)?;
-        assert!(rt; is == *wanted, "{first}{second}");
+        let found = violation_in(rt.alloc(), access, first, second)?;
+        let at = found.map(|violation| (violation.unit.0, violation.position));
+        assert!(rt; at == *wanted, "{first}{second}");
     }
     Ok(())
 }
@@ -154,7 +171,7 @@ fn has_flow<P: Work>(
 ) -> Result<bool, Want>
     requires calls { function_limit ≤ P.count work.now }
 {
-    if !confluent(alloc, w)? {
+    if first_violation(alloc, w)?.is_some() {
         return Ok(false);
     }
     w.known();

@@ -60,7 +60,7 @@ const WOKEN: &str = "{\"traceEvents\":[
 ]}
 ";
 
-// A unit says a word with signs that have a meaning in XML or in JSON, and calls a function.
+// A unit says a word with signs that have a meaning in XML or in JSON, calls a function, and prints what that returned.
 const WORKLOAD: &str = "abt 3
 streams 1
 pool 0 fifo mpmc
@@ -70,6 +70,7 @@ units 1
 unit 0 ult at 0
 say <\"\\&'>
 call 0
+print
 end
 ";
 
@@ -88,6 +89,21 @@ const NAMED: &str = "{\"traceEvents\":[
 ]}
 ";
 
+// A run of the workload, with what its steps put out.
+const TOLD: &str = "{\"traceEvents\":[
+{\"ph\":\"M\",\"pid\":0,\"name\":\"process_name\",\"args\":{\"name\":\"abtrun\"}},
+{\"ph\":\"M\",\"pid\":0,\"tid\":0,\"name\":\"thread_name\",\"args\":{\"name\":\"stream 0\"}},
+{\"ph\":\"M\",\"pid\":0,\"tid\":0,\"name\":\"thread_sort_index\",\"args\":{\"sort_index\":0}},
+{\"ph\":\"X\",\"pid\":0,\"tid\":0,\"ts\":1.0,\"dur\":4.8,\"cat\":\"stretch\",\"name\":\"unit 0\",\"args\":{\"unit\":0}},
+{\"ph\":\"X\",\"pid\":0,\"tid\":0,\"ts\":1.1,\"dur\":0.6,\"cat\":\"event\",\"name\":\"take\",\"args\":{\"unit\":0}},
+{\"ph\":\"X\",\"pid\":0,\"tid\":0,\"ts\":2.1,\"dur\":0.6,\"cat\":\"event\",\"name\":\"look\",\"args\":{\"unit\":0}},
+{\"ph\":\"X\",\"pid\":0,\"tid\":0,\"ts\":3.1,\"dur\":0.6,\"cat\":\"event\",\"name\":\"step\",\"args\":{\"unit\":0,\"operation\":\"say <\\\"\\\\&'>\",\"code\":\"ok\",\"output\":\"<\\\"\\\\&'>\"}},
+{\"ph\":\"X\",\"pid\":0,\"tid\":0,\"ts\":4.1,\"dur\":0.6,\"cat\":\"event\",\"name\":\"call\",\"args\":{\"unit\":0,\"operation\":\"call 0\",\"value\":\"7\"}},
+{\"ph\":\"i\",\"pid\":0,\"tid\":0,\"ts\":4.4,\"s\":\"t\",\"name\":\"call, unit 0, returned 7\"},
+{\"ph\":\"X\",\"pid\":0,\"tid\":0,\"ts\":5.1,\"dur\":0.6,\"cat\":\"event\",\"name\":\"step\",\"args\":{\"unit\":0,\"operation\":\"print\",\"code\":\"ok\",\"output\":\"7\"}}
+]}
+";
+
 const LONG: &str =
     "<svg xmlns='http://www.w3.org/2000/svg' width='720' height='40'><text x='10' y='25'>a picture has at most 20,000 events and no stamp above 20,000: use abtview trace</text></svg>\n";
 
@@ -102,7 +118,7 @@ type Row = (
     &'static str,
 );
 
-static ROWS: [Row; 30] = [
+static ROWS: [Row; 31] = [
     ("trace,f", "", NEVER, 0, NOTHING, ""),
     (
         "trace,f",
@@ -141,10 +157,18 @@ static ROWS: [Row; 30] = [
     // the operations of a workload: an event may name a position or a unit that it does not have
     (
         "trace,f,w",
-        "1 0 look 0\n2 0 step 0 0 ok\n3 0 call 0 1 7\n4 0 step 0 2 ok\n5 0 step 1 0 ok\n",
+        "1 0 look 0\n2 0 step 0 0 ok\n3 0 call 0 1 7\n4 0 step 0 3 ok\n5 0 step 1 0 ok\n",
         NEVER,
         0,
         NAMED,
+        "",
+    ),
+    (
+        "trace,f,w",
+        "1 0 take 0 0\n2 0 look 0\n3 0 step 0 0 ok\n4 0 call 0 1 7\n5 0 step 0 2 ok\n",
+        NEVER,
+        0,
+        TOLD,
         "",
     ),
     ("svg,f,w", "20001 0 miss 0\n", NEVER, 8, LONG, ""),
@@ -256,7 +280,7 @@ static ROWS: [Row; 30] = [
         NEVER,
         3,
         "",
-        "abtview: line 2: shape\n",
+        "abtview: line 2: shape\nform: streams N\n",
     ),
     // numbers that are too large for a journal
     (

@@ -2,7 +2,7 @@
 
 use abt_machine::{Event, Journal, Want};
 use abt_report::{TextFault, read_journal};
-use abt_view::{Arrow, Frame, Spot, Stretch, all_arrows, all_frames, all_stretches};
+use abt_view::{Arrow, Frame, Spot, Stretch, all_arrows, all_frames, all_stretches, take_notes};
 use std::alloc::Global;
 use std::process::Abort;
 use std::test::Fail;
@@ -113,6 +113,9 @@ static VIEWS: [View; 4] = [
     ),
 ];
 
+// As many streams as a workload may have.
+const STREAMS: u64 = 64;
+
 // The journal of a text.
 fn journal(rt: &impl Abort, alloc: Global, text: &str) -> Result<Journal, TextFault> {
     assert!(rt; text.len() < 10_000);
@@ -127,7 +130,8 @@ fn is_stretch(found: &Stretch, (stream, unit, since, until, events): Times) -> b
 
 // Whether the events have these stretches.
 fn have_stretches(alloc: Global, events: &[Event], wanted: &[Times]) -> Result<bool, Want> {
-    let found = all_stretches(alloc, events)?;
+    let notes = take_notes(alloc, events, &[])?;
+    let found = all_stretches(alloc, STREAMS, &notes)?;
     Ok(found.len() == wanted.len() && found.iter().zip(wanted).all(|(f, w)| is_stretch(f, *w)))
 }
 

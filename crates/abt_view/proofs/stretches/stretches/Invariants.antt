@@ -3,5 +3,5 @@ use Rattle.std.specs.List.{fold}
 use Rattle.abt_view.specs.Stretches.{cut_at, uncut}
 use Rattle.abt_view.proofs.stretches.stretches.Given as goal
 
-abbrev pub invariant-loop-event : goal.invariant-loop-event
-invariant-loop-event l = l.cut ≡ fold (cut_at l.s) uncut (take l.event-index l.journal)
+abbrev pub invariant-loop-note : goal.invariant-loop-note
+invariant-loop-note l = l.cut ≡ fold (cut_at l.s) uncut (take l.note-index l.notes)
