@@ -263,7 +263,16 @@ try_bad_words() {
     came "more than that" 2 "" "$(words_are_bad run)"
 }
 
-# What the program says of itself, and runs in rotation: each is the same, and a run.
+# is_small WORKLOAD JOURNAL: whether there are at most 7 events for each step and 5 for each unit with a start, misses not counted.
+is_small() {
+    local steps events starts
+    steps=$(grep -cE '^[0-9]+ [0-9]+ (step|call) ' "$2")
+    events=$(grep -cvE '^[0-9]+ [0-9]+ miss ' "$2")
+    starts=$(grep -cE '^unit .* at [0-9]+' "$1")
+    [ "$events" -le $((7 * steps + 5 * starts)) ]
+}
+
+# What the program says of itself, and runs in rotation: each is the same, and a run of few events.
 try_words() {
     local file turn
     call "$program" --help
@@ -287,6 +296,7 @@ try_words() {
         grep '^[0-9]' "$room/turn.1" >"$room/turn.journal"
         call "$program" check "$data/$file.abt" "$room/turn.journal"
         came "$file in turn: the journal" 0 "run" ""
+        holds "$file in turn: few events" is_small "$data/$file.abt" "$room/turn.journal"
     done
 }
 
@@ -384,11 +394,12 @@ try_schedules() {
     came "a workload that is not there" 5 "" "$(blamed "$room/no.abt" absent)"
 }
 
-# refused FAULT LINE: the text on standard input is refused so.
+# refused FAULT LINE [HINT]: the text on standard input is refused so, and this is said further.
 refused() {
     cat >"$room/text.abt"
     call "$program" run "$room/text.abt"
-    came "the fault $1 at line $2" 3 "" "abtrun: line $2: $1"
+    came "the fault $1 at line $2" 3 "" "abtrun: line $2: $1${3:+
+$3}"
 }
 
 try_faults() {
@@ -400,7 +411,15 @@ finished' ""
     hello | LC_ALL=C sed $'10s/.*/say \xff/' | refused utf8 10
     hello | sed '1s/.*/abt 4/' | refused version 1
     hello | sed '10s/.*/sing hello/' | refused unknown 10
-    hello | sed '10s/.*/say hello you/' | refused shape 10
+    hello | sed '10s/.*/say hello you/' | refused shape 10 "form: say WORD"
+    hello | sed '10s/.*/cwait/' | refused shape 10 "form: cwait X"
+    hello | sed '3s/.*/pool 0 fifo/' | refused shape 3 "form: pool P KIND ACCESS"
+    hello | sed 2p | refused shape 3 "a line of this form must not stand here"
+    hello | sed 9d | refused shape 9 "a line of this form must not stand here"
+    hello | sed $'10s/$/\x01/' | refused shape 10 "the line has a control character"
+    hello | sed 's/$/\r/' | refused version 1 "the line ends with a carriage return"
+    hello | sed '4s/$/\r/' | refused shape 4 "the line ends with a carriage return"
+    hello | sed $'1s/^/\xef\xbb\xbf/' | refused version 1 "the text begins with a byte order mark"
     hello | sed '8s/.*/units one/' | refused number 8
     hello | sed '7s/.*/stream 1 main 0/' | refused twice 7
     hello | sed '9s/.*/unit 0 ult at 1/' | refused undeclared 9
@@ -467,7 +486,8 @@ try_varied() {
     # Its fault is far beyond the first reads.
     sed '16000s/.*/say two words/' "$room/varied.abt" >"$room/text.abt"
     call "$program" run "$room/text.abt"
-    came "a fault far into a long file" 3 "" "abtrun: line 16000: shape"
+    came "a fault far into a long file" 3 "" "abtrun: line 16000: shape
+form: say WORD"
     slowly "$program" run "$room/varied.abt"
     came "a slow reader of a long report" 0 "@$room/varied.out" ""
 }
@@ -577,7 +597,7 @@ try_checks() {
     { sed -n 's/^\(unit [0-9]*\) done:/\1:/p' "$room/text" && echo finishes; } >"$room/flow.out"
     holds "a run puts out the flow" cmp -s "$room/flow.out" "$data/flow.out"
     call "$program" flow "$data/streams.abt"
-    came "a workload that is not confluent" 1 "not confluent" ""
+    came "a workload that is not confluent" 1 $'not confluent\nunit 0 operation 0: lock 0' ""
     call "$program" flow "$hi" "$hi"
     came "a flow of two files" 2 "" "$(words_are_bad flow)"
 }

@@ -101,17 +101,38 @@ JSON
         '4 0 step 0 3 ok  yield' '5 0 step 0 4 ok' >"$room/named.lines"
 }
 
+# A workload that says a word and prints a number, and a run of it.
+write_told() {
+    printf '%s\n' 'abt 1' 'streams 1' 'pool 0 fifo mpmc' 'sched 0 prio 0' 'stream 0 main 0' 'units 1' 'unit 0 ult at 0' \
+        'add 42' 'print' 'say a<b' end >"$room/told.abt"
+    printf '%s\n' '1 0 take 0 0' '2 0 look 0' '3 0 step 0 0 ok' '4 0 step 0 1 ok' '5 0 step 0 2 ok' '6 0 end 0 done' >"$room/told.journal"
+}
+
+# Views with what a say and a print put out.
+try_told() {
+    call "$program" svg "$room/told.journal" "$room/told.abt"
+    holds "the svg shows what a print put out" grep -qx '4 0 step 0 1 ok  print: 42' "$room/out"
+    holds "the svg shows what a say put out" grep -qx '5 0 step 0 2 ok  say a&lt;b: a&lt;b' "$room/out"
+    call "$program" trace "$room/told.journal" "$room/told.abt"
+    holds "the trace shows what a print put out" grep -q '"operation":"print","code":"ok","output":"42"}' "$room/out"
+    holds "the trace shows what a say put out" grep -q '"operation":"say a<b","code":"ok","output":"a<b"}' "$room/out"
+    holds "nothing else put out something" [ "$(grep -c '"output"' "$room/out")" = 2 ]
+    sed 's/^4 0 step 0 1/4 0 step 0 2/' "$room/told.journal" >"$room/text"
+    call "$program" trace "$room/text" "$room/told.abt"
+    holds "behind an event that may not come nothing is said" [ "$status $(grep -c '"output"' "$room/out")" = "0 0" ]
+}
+
 # Views with the operations of a workload.
 try_named() {
     local hi=$root/crates/abt_examples/data/hi.abt view
     call "$program" svg "$journal" "$hi"
-    holds "the svg of hi names the operation" grep -qx '3 0 step 0 0 ok  say hi' "$room/out"
-    sed "s/  say hi\$//; s|<text class='op'[^>]*>say hi</text>||" "$room/out" >"$room/text"
+    holds "the svg of hi names the operation" grep -qx '3 0 step 0 0 ok  say hi: hi' "$room/out"
+    sed "s/  say hi: hi\$//; s|<text class='op'[^>]*>say hi: hi</text>||" "$room/out" >"$room/text"
     holds "and is otherwise the svg without a workload" cmp -s "$room/text" "$picture"
     call "$program" svg - "$hi" <"$journal"
-    holds "a journal on standard input" grep -qx '3 0 step 0 0 ok  say hi' "$room/out"
+    holds "a journal on standard input" grep -qx '3 0 step 0 0 ok  say hi: hi' "$room/out"
     call "$program" svg "$journal" - <"$hi"
-    holds "a workload on standard input" grep -qx '3 0 step 0 0 ok  say hi' "$room/out"
+    holds "a workload on standard input" grep -qx '3 0 step 0 0 ok  say hi: hi' "$room/out"
     call "$program" trace "$room/named.journal" "$room/named.abt"
     came "the trace with operations" 0 "@$room/named.json" ""
     call "$program" svg "$room/named.journal" "$room/named.abt"
@@ -129,7 +150,8 @@ try_named() {
         came "$view: a journal is no workload" 3 "" "abtview: line 1: version"
         sed 's/^say hi$/say/' "$hi" >"$room/text"
         call "$program" "$view" "$room/absent" "$room/text"
-        came "$view: the workload is read first" 3 "" "abtview: line $(grep -nx say "$room/text" | cut -d: -f1): shape"
+        came "$view: the workload is read first" 3 "" "abtview: line $(grep -nx say "$room/text" | cut -d: -f1): shape
+form: say WORD"
         call "$program" "$view" "$hi" "$hi"
         came "$view: a workload is no journal" 3 "" "abtview: line 1: journal"
         call "$program" "$view" "$room/absent" "$hi"
@@ -188,13 +210,18 @@ for points in arrows.values():
 PYTHON
 }
 
-# has_args JOURNAL WORKLOAD TRACE: whether each slice of the trace has the arguments that the two texts say.
+# has_args JOURNAL WORKLOAD TRACE REPORT: whether each slice of the trace has the arguments that the texts say.
 has_args() {
     python3 - "$@" 2>/dev/null <<'PYTHON'
 import json, sys
 
-journal, workload, trace = (open(name).read() for name in sys.argv[1:])
+journal, workload, trace, report = (open(name).read() for name in sys.argv[1:])
 operations, kinds, open_units = {}, {}, []
+pieces = {}
+for line in report.splitlines():
+    if line.startswith("unit "):
+        head, tail = line.split(":", 1)
+        pieces[int(head.split()[1])] = iter(tail.split())
 sections = "abt streams keys pool sched stream units end".split()
 for words in map(str.split, workload.splitlines()):
     if not words or words[0].startswith("#") or words[0] in sections:
@@ -222,6 +249,10 @@ def args(kind, *words):
         if words_of[0] not in local:
             found["object"] = kinds[words_of[1]] + " " + words_of[1]
         found["code" if kind == "step" else "value"] = words[2]
+        if kind == "step" and words[2] != "ok":
+            assert next(pieces[unit]) == "!" + words[2]
+        elif words_of[0] in ("say", "print"):
+            found["output"] = next(pieces[unit])
     return found
 
 
@@ -272,7 +303,8 @@ try_runs() {
     call "$program" svg "$room/text"
     came "the picture of docs/VIEW.md" 0 "@$root/docs/stacked.svg" ""
     ! has_python || for example in stacked streams stealing rwlock condition eventual future barrier pipeline; do
-        "$run" run "$root/crates/abt_examples/data/$example.abt" --journal | grep '^[0-9]' >"$room/text"
+        "$run" run "$root/crates/abt_examples/data/$example.abt" --journal >"$room/whole"
+        grep '^[0-9]' "$room/whole" >"$room/text"
         call "$program" svg "$room/text"
         holds "the svg of $example is XML" is_xml "$room/out"
         call "$program" trace "$room/text"
@@ -281,7 +313,7 @@ try_runs() {
         holds "the svg of $example with operations is XML" is_xml "$room/out"
         call "$program" trace "$room/text" "$data/$example.abt"
         holds "the trace of $example with operations is one" is_trace "$room/out"
-        holds "and has the arguments of $example" has_args "$room/text" "$data/$example.abt" "$room/out"
+        holds "and has the arguments of $example" has_args "$room/text" "$data/$example.abt" "$room/out" "$room/whole"
         call "$program" svg "$room/text" "$data/$example.abt"
         holds "the bars of $example have the operations that have room" has_room_for_texts "$room/out"
         call "$program" trace "$room/text" "$data/$example.abt"
@@ -318,13 +350,14 @@ try_about() {
     came "--version" 0 "$(version_of abtview)" ""
 }
 
-# refused LINE: the journal on standard input is refused at this line, by both views.
+# refused LINE [HINT]: the journal on standard input is refused at this line, and this is said further, by both views.
 refused() {
     cat >"$room/text"
     local view
     for view in svg trace; do
         call "$program" "$view" "$room/text"
-        came "$view: refused at line $1" 3 "" "abtview: line $1: journal"
+        came "$view: refused at line $1" 3 "" "abtview: line $1: journal${2:+
+$2}"
     done
 }
 
@@ -332,7 +365,8 @@ try_faults() {
     printf '\n' | refused 1
     printf '1 0 miss 0' | refused 1
     printf '1 0 miss 0\n2 0 miss 00\n' | refused 2
-    printf '1 0 miss 0\r\n' | refused 1
+    printf '1 0 miss 0\r\n' | refused 1 "the line ends with a carriage return"
+    printf '\xef\xbb\xbf1 0 miss 0\n' | refused 1 "the text begins with a byte order mark"
     printf '1 0 miss 0\n2 0 miss 0\n3 0 look  0\n' | refused 3
     printf '1 0 miss 0\n2 0 step 0 0 fine\n' | refused 2
     printf '1 0 miss 0\n2 0 miss \xff\n' | refused 2
@@ -389,8 +423,10 @@ mkfifo "$room/fifo"
 write_refused
 write_long 10000
 write_named
+write_told
 try_views
 try_named
+try_told
 try_runs
 try_bad_words
 try_about

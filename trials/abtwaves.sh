@@ -131,11 +131,12 @@ try_bad_words() {
 
 # Lives texts that break a rule, each with its line.
 try_bad_lives() {
-    local line text
-    while IFS='|' read -r line text; do
+    local line text hint
+    while IFS='|' read -r line text hint; do
         printf "$text" >"$room/bad.lives"
         call "$program" "$lives/made.abt" "$room/bad.lives"
-        came "the lives '$text'" 3 "" "abtwaves: line $line: life"
+        came "the lives '$text'" 3 "" "abtwaves: line $line: life${hint:+
+$hint}"
     done <<'ROWS'
 1|life 1 0 0\n
 1|life 2 0 1\n
@@ -146,7 +147,8 @@ try_bad_lives() {
 1|life 1 0\n
 1|life 1 0 1 \n
 1| life 1 0 1\n
-1|\r\n
+1|\r\n|the line ends with a carriage return
+1|\xef\xbb\xbflife 1 0 1\n|the text begins with a byte order mark
 1|# a comment that is not UTF-8 \xff\n
 1|live 1 0 1\n
 2|life 1 0 1\nlife 1 0 1\n

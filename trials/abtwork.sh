@@ -99,11 +99,12 @@ in_order() {
     came "$(wc -l <"$room/text") numbers on $1 streams" 0 "@$room/wanted" ""
 }
 
-# refused LINE: the numbers on standard input are refused at this line.
+# refused LINE [HINT]: the numbers on standard input are refused at this line, and this is said further.
 refused() {
     cat >"$room/text"
     call "$program" mergesort "$room/text"
-    came "refused at line $1" 3 "" "abtwork: line $1: number"
+    came "refused at line $1" 3 "" "abtwork: line $1: number${2:+
+$2}"
 }
 
 try_sorting() {
@@ -124,7 +125,8 @@ try_sorting() {
     printf '1\n2\n-3\n' | refused 3
     printf '+1\n' | refused 1
     printf '1 \n' | refused 1
-    printf '1\r\n' | refused 1
+    printf '1\r\n' | refused 1 "the line ends with a carriage return"
+    printf '\xef\xbb\xbf1\n' | refused 1 "the text begins with a byte order mark"
     printf '1\n0x1\n' | refused 2
     printf '1\n18446744073709551616\n' | refused 2
     printf '1\n\xff\n' | refused 2

@@ -1,4 +1,5 @@
-# The pages: manual pages are shown without a warning, with all their examples, and each link of a page leads to a file and a heading.
+# The pages: manual pages are shown without a warning, with all their examples; each link of a page leads to a file and a heading, the
+# names of what a crate's page says is proved stand in its sources, and no cell of a table is long.
 
 # examples FILE: the lines of a manual page that are shown as they stand.
 examples() { sed -n '/^\.nf/,/^\.fi/{/^\./d;s/\\-/-/g;s/\\&//g;p}' "$1"; }
@@ -24,34 +25,32 @@ try_manual_pages() {
     done
 }
 
-# headings FILE: the names by which links call its headings and its marked places.
-headings() {
-    sed -n 's/^##* //p' "$1" | tr '[:upper:] ' '[:lower:]-' | sed 's/[^a-z0-9_-]//g'
-    sed -n 's/.*<a id="\([^"]*\)".*/\1/p' "$1"
-}
+# The repository's files and folders, without what is built.
+all_files() { find . \( -name .git -o -name out \) -prune -o -print | sed 's/^\.\///'; }
 
-# links FILE: where its links lead that stay in the repository.
-links() { grep -o '](\([^)]*\))' "$1" | sed 's/^](//; s/)$//' | grep -v '^https\?:' | sort -u; }
+no_fault() { [ -z "$1" ]; }
 
-# leads PAGE LINK: whether the link of the page leads to a file or folder and, if it names a heading, to that.
-leads() {
-    local file=$1
-    case $2 in '#'*) ;; *) file=$(dirname -- "$1")/${2%%#*} ;; esac
-    [ -e "$file" ] || return
-    case $2 in *'#'*) headings "$file" | grep -qxF -- "${2#*#}" ;; esac
-}
-
-try_links() {
-    local page link lost
-    for page in README.md CHANGELOG.md bench/*.md docs/*.md docs/*/*.md crates/*/*.md crates/*/data/*.md; do
-        [ -f "$page" ] || continue
-        lost=
-        while IFS= read -r link; do
-            leads "$page" "$link" || lost+=" $link"
-        done < <(links "$page")
-        holds "the links of $page lead to what they name:$lost" [ -z "$lost" ]
+# Links lead to what they name, the lists of crates' pages name what their sources have, and no cell of a table is long.
+try_pages() {
+    local pages=() page kind what last=
+    local -A faults=()
+    for page in README.md CHANGELOG.md CONTRIBUTING.md bench/*.md docs/*.md docs/*/*.md crates/*/*.md crates/*/data/*.md; do
+        [ ! -f "$page" ] || pages+=("$page")
+    done
+    while IFS=$'\t' read -r page kind what; do
+        last=$page
+        [ -z "$kind" ] || faults[$page $kind]+=" $what"
+    done < <(awk -f trials/pages.awk <(all_files) "${pages[@]}")
+    holds "the pages are read" [ "$last" = done ]
+    holds "what docs/LIBRARY.md quotes stands in the sources" no_fault "${faults[docs/LIBRARY.md quote]}"
+    for page in "${pages[@]}"; do
+        holds "the links of $page lead to what they name" no_fault "${faults[$page link]}"
+        holds "no cell of a table of $page has more than 300 bytes" no_fault "${faults[$page cell]}"
+        case $page in crates/*/README.md | docs/ARCHITECTURE.md | docs/PROOFS.md | docs/GLOSSARY.md)
+            holds "the names of $page are there" no_fault "${faults[$page name]}" ;;
+        esac
     done
 }
 
 try_manual_pages
-try_links
+try_pages
