@@ -71,12 +71,12 @@ fn units(alloc: Global, n: u32) -> Result<Vec<UnitPart>, AllocError>
 {
     let mut units = Vec::new(alloc);
     units.push(UnitPart {
-        body: Body::Ult(Ops::new(first_ops(alloc, n)?)),
+        body: Body::Ult(Ops::new(alloc, first_ops(alloc, n)?)?),
         start: Some(PoolNo(0)),
     })?;
     for k in 0..n {
         units.push(UnitPart {
-            body: Body::Ult(Ops::new(adder_ops(alloc, k + 1)?)),
+            body: Body::Ult(Ops::new(alloc, adder_ops(alloc, k + 1)?)?),
             start: None,
         })?;
     }

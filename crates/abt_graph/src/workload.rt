@@ -115,7 +115,7 @@ fn unit(alloc: Global, streams: u32, u: u32, node: &Node) -> Result<UnitPart, Al
     ensures { IfOk result (λ unit. unit ≡ node_unit streams u node.now) }
 {
     Ok(UnitPart {
-        body: Body::Ult(Ops::new(ops(alloc, u, node)?)),
+        body: Body::Ult(Ops::new(alloc, ops(alloc, u, node)?)?),
         start: Some(PoolNo(u % streams)),
     })
 }

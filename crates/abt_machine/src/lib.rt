@@ -7,6 +7,7 @@ mod grammar;
 mod items;
 mod numbers;
 mod operations;
+mod ops;
 mod program;
 mod validity;
 mod workload;
@@ -20,8 +21,9 @@ pub use grammar::{
 pub use items::{Items, Text};
 pub use numbers::{ObjectNo, PoolNo, Returned, SchedNo, StreamNo, UnitNo};
 pub use operations::{
-    Access, Body, Calc, Combine, Kind, Op, Ops, OrderShape, Pools, Rule, Side, Thing, gcd,
+    Access, Body, Calc, Combine, Kind, Op, OrderShape, Pools, Rule, Side, Thing, gcd,
 };
+pub use ops::Ops;
 pub use program::{Ended, Fault, Want};
 pub use workload::{
     Mains, Parts, PoolPart, PoolParts, SchedPart, SchedParts, Texts, Things, UnitPart, UnitParts,

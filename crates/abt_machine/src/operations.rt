@@ -11,6 +11,7 @@ ghost use Rattle.abt_machine.specs.declared.operations.Calc.TheVariants as calc;
 
 use crate::items::Items;
 use crate::numbers::{ObjectNo, PoolNo, SchedNo, StreamNo, UnitNo};
+use crate::ops::Ops;
 
 /// How a pool orders its units. FIFO pushes at the back and pops at the front (the Argobots API);
 /// a deque pops at the back for the streams that own it, and at the front for every other.
@@ -245,9 +246,6 @@ impl Op {
         )
     }
 }
-
-/// A unit's program.
-pub type Ops = Items<Op>;
 
 /// The pools that a scheduler lists.
 pub type Pools = Items<PoolNo>;

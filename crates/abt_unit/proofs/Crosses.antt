@@ -2,11 +2,12 @@
 use denote.RattleType.{RattleType}
 use denote.Param.Send.{IsSend, IsSync, sendable}
 use denote.Param.SendFields.{as_row_send}
-use Rattle.std.proofs.Crossing.{Box-send, Vec-sync, crosses}
+use Rattle.std.proofs.Crossing.{Arc-sync, Box-send, Vec-send, Vec-sync, crosses}
 use Rattle.abt_machine.specs.contracts.items.Items as Items
 use Rattle.abt_machine.specs.contracts.operations.Body as Body
 use Rattle.abt_machine.specs.contracts.operations.Calc as Calc
 use Rattle.abt_machine.specs.contracts.operations.Op as Op
+use Rattle.abt_machine.specs.contracts.ops.Ops as Ops
 use Rattle.abt_machine.specs.contracts.workload.Parts as Parts
 use Rattle.abt_machine.specs.contracts.workload.SchedPart as SchedPart
 use Rattle.abt_machine.specs.contracts.workload.UnitPart as UnitPart
@@ -26,14 +27,23 @@ Unit-send = send-Unit (as_row_send UnitBody.the_field UnitBody-send) (λ h s. le
 Calc-sync : IsSync (Calc.the_field).row
 Calc-sync = search sendable depth 30
 
+Calc-send : IsSend (Calc.the_field).row
+Calc-send = search sendable depth 30
+
 Op-sync : IsSync Op.the_row
 Op-sync = search (sendable, Calc-sync) depth 90 fits 20000
+
+Op-send : IsSend Op.the_row
+Op-send = search (sendable, Calc-send) depth 90 fits 20000
+
+Ops-sync : IsSync Ops.the_row
+Ops-sync = search (sendable, Vec-send, Vec-sync, Arc-sync, Op-send, Op-sync) depth 30
 
 Items-sync : (T : RattleType) → IsSync T → IsSync (Items.the_row T)
 Items-sync T s = search (sendable, Vec-sync) depth 30
 
 Body-sync : IsSync (Body.the_field).row
-Body-sync = search (sendable, Op-sync, Items-sync) depth 30
+Body-sync = search (sendable, Ops-sync) depth 30
 
 UnitPart-sync : IsSync UnitPart.the_row
 UnitPart-sync = search (sendable, Body-sync) depth 30

@@ -27,8 +27,8 @@ pub fn scheds(alloc: Global, rows: &[(Rule, &[PoolNo])]) -> Result<SchedParts, A
 /// A unit that is this and starts there.
 pub fn unit(alloc: Global, role: Role, start: Option<PoolNo>) -> Result<UnitPart, AllocError> {
     let body = match role {
-        Role::Ult(ops) => Body::Ult(Ops::new(ops.to_vec(alloc)?)),
-        Role::Task(ops) => Body::Task(Ops::new(ops.to_vec(alloc)?)),
+        Role::Ult(ops) => Body::Ult(Ops::new(alloc, ops.to_vec(alloc)?)?),
+        Role::Task(ops) => Body::Task(Ops::new(alloc, ops.to_vec(alloc)?)?),
         Role::Sched(g) => Body::Sched(g),
     };
     Ok(UnitPart { body, start })

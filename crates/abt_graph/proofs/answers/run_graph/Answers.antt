@@ -14,11 +14,11 @@ pub numbers-requires : goal.numbers-requires
 numbers-requires g c =
     let run = c.in_ok-run.ensures.run in
     shown-each c.args.streams (g.W.Work.count c.args.work.now) c.requires.streams.0 c.requires.streams.1 c.args.nodes.now c.requires.graph (g.W.Work.returns c.args.work.now) c.requires.functions
-    c.in_ok-w.w c.in_ok-w.ensures _ 1048576 (omega arith) run.events c.in_ok-run.run'.outcome c.orderly_finish.ensures run.holds c.items.result.now (subst (IsPictureOf c.in_ok-w.w run.events) (sym c.items.ensures) run.pictured)
+    c.in_ok-w.w c.in_ok-w.ensures _ 1048576 (omega arith) run.events c.in_ok-run.run'.outcome c.orderly_finish.ensures run.holds.0 c.items.result.now (subst (IsPictureOf c.in_ok-w.w run.events) (sym c.items.ensures) run.pictured)
 
 pub returns : goal.returns
 returns g c =
     let run = c.in_ok-run.ensures.run in
     shown-values c.args.streams (g.W.Work.count c.args.work.now) c.requires.streams.0 c.requires.streams.1 c.args.nodes.now c.requires.graph (g.W.Work.returns c.args.work.now) c.requires.functions
-    c.in_ok-w.w c.in_ok-w.ensures _ 1048576 (omega arith) run.events c.in_ok-run.run'.outcome c.orderly_finish.ensures run.holds c.items.result.now (subst (IsPictureOf c.in_ok-w.w run.events) (sym c.items.ensures) run.pictured)
+    c.in_ok-w.w c.in_ok-w.ensures _ 1048576 (omega arith) run.events c.in_ok-run.run'.outcome c.orderly_finish.ensures run.holds.0 c.items.result.now (subst (IsPictureOf c.in_ok-w.w run.events) (sym c.items.ensures) run.pictured)
     c.in_ok-numbers.field-0.items c.in_ok-numbers.ensures
