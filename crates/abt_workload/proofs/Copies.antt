@@ -42,6 +42,16 @@ range-later k f (suc m) =
 
 -- What a copy has.
 
+-- an operation whose words are no higher is the same
+same-op : (o : Op) → op_later 0 o ≡ o
+same-op (op.Say w) = let e : w + 0 ≡ w = omega arith in ap op.Say e
+same-op _ = refl
+
+-- and so is a program
+pub same-ops : (ops : List Op) → map (op_later 0) ops ≡ ops
+same-ops [] = refl
+same-ops (o ∷ ops) = ap (λ (q : Op). q ∷ map (op_later 0) ops) (same-op o) ∙ ap (λ (qs : List Op). o ∷ qs) (same-ops ops)
+
 -- the operations of a copy
 pub ops-later : (n : ℕ) (b : Body) → ops_of (body_later n b) ≡ map (op_later n) (ops_of b)
 ops-later n (body.Ult ops) = refl

@@ -23,6 +23,7 @@ pub mod Places
 pub mod PoolLines
 pub mod Operating
 pub mod OperationForms
+pub mod OnePass
 pub mod OperationLines
 pub mod Proper
 pub mod Reaching

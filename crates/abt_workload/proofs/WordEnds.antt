@@ -1,6 +1,7 @@
 -- Where the first word of a line begins and ends.
 use Rattle.std.proofs.Common.{◌≡◌, ◌<◌, ◌≤◌, ◌+◌, ◌-◌, ◌==◌, ◌∙◌, ℕ, zero, suc, true, false, List, [], ◌∷◌, ◌++◌, length, take, drop, get_or, refl, ap, sym, arith, rules, tests, append-nil, length-take, length-drop}
 use Rattle.std.specs.List.{All}
+use Rattle.std.proofs.lemmas.Bool.{eqb-true}
 use Rattle.std.proofs.lemmas.List.{get_or-drop, get_or-take, get_or_default, take-append-drop, take_all}
 use Rattle.std.proofs.lemmas.List.Splits.{slice_split_at, slice_split_none}
 use Rattle.abt_machine.specs.Spelling.{is_empty, is_separator, words_of}
@@ -10,7 +11,14 @@ use Rattle.abt_machine.specs.Words.{Text}
 pub words-past : (b : ℕ) (rest : Text) → is_separator b ≡ true → words_of (b ∷ rest) ≡ words_of rest
 words-past b rest e = rw e refl
 
-some-byte : (k : ℕ) (line : Text) → 0 < k → k ≤ length line → is_empty (take k line) ≡ false
+-- nor do several
+pub words-skip : (line : Text) (k : ℕ) → k ≤ length line → ((j : ℕ) → j < k → is_separator (get_or line j 0) ≡ true) → words_of line ≡ words_of (drop k line)
+words-skip [] zero le before = refl
+words-skip [] (suc k) le before = absurd (omega arith)
+words-skip (b ∷ bs) zero le before = refl
+words-skip (b ∷ bs) (suc k) le before = words-past b bs (before 0 (omega arith)) ∙ words-skip bs k (omega arith) (λ j h. before (suc j) (omega arith))
+
+pub some-byte : (k : ℕ) (line : Text) → 0 < k → k ≤ length line → is_empty (take k line) ≡ false
 some-byte zero line some le = absurd (omega arith)
 some-byte (suc k) [] some le = absurd (omega arith)
 some-byte (suc k) (b ∷ bs) some le = search (rules, tests)
@@ -39,7 +47,7 @@ words-cut k line some le at before =
     rw (e, z) (at there) in
     ap words_of (sym whole) ∙ words-first (take k line) (drop k line) all (some-byte k line some le) after
 
-rest-whole : (at : ℕ) (bytes : Text) → take (length bytes - at) (drop at bytes) ≡ drop at bytes
+pub rest-whole : (at : ℕ) (bytes : Text) → take (length bytes - at) (drop at bytes) ≡ drop at bytes
 rest-whole at bytes = let le : length (drop at bytes) ≤ length bytes - at = simp length-drop (omega arith) in take_all _ _ le
 
 -- the same of a cut line
@@ -52,3 +60,19 @@ word-taken (suc k) line some front le at before = rw rest-whole (words-cut (suc 
 pub some-at : (n : ℕ) → (n == 0) ≡ false → 0 < n
 some-at zero e = cc
 some-at (suc n) e = omega arith
+
+-- the rest of a line, from its first byte that is no separator
+pub rest-words : (line : Text) (k : ℕ) → k ≤ length line → ((j : ℕ) → j < k → is_separator (get_or line j 0) ≡ true) → words_of line ≡ words_of (take (length line - k) (drop k line))
+rest-words line k le before = rw rest-whole (words-skip line k le before)
+
+pub rest-start : (line : Text) (k : ℕ) → (k < length line → is_separator (get_or line k 0) ≡ false) → 0 < length (take (length line - k) (drop k line))
+    → is_separator (get_or (take (length line - k) (drop k line)) 0 0) ≡ false
+rest-start line k at some =
+    let there : k < length line = let lt : 0 < length (drop k line) = rw rest-whole at some in omega (arith, length-drop k line, lt) in
+    let e : get_or (drop k line) 0 0 ≡ get_or line (k + 0) 0 = get_or-drop k line 0 0 in
+    let z : k + 0 ≡ k = omega arith in
+    rw (rest-whole, e, z) (at there)
+
+pub no-words : (line : Text) → (length line == 0) ≡ true → words_of line ≡ []
+no-words [] none = refl
+no-words (b ∷ bs) none = absurd (let e : length (b ∷ bs) ≡ 0 = eqb-true _ 0 none in omega (arith, e))

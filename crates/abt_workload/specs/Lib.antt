@@ -1,3 +1,4 @@
+pub mod Bytes
 pub mod Declarable
 pub mod Hints
 pub mod Judging

@@ -1,5 +1,5 @@
 -- What the reader's table and its numbers are in the grammar.
-use Rattle.std.specs.Prelude.{ℕ, ◌≡◌, ◌⊎◌, if◌then◌else◌, Bool, true, false, List, [], ◌∷◌, codes, Option, Some, None}
+use Rattle.std.specs.Prelude.{ℕ, ◌≡◌, ◌≤◌, ◌-◌, ◌&&◌, if◌then◌else◌, Bool, true, false, List, [], ◌∷◌, codes, drop, length, take, Option, Some, None}
 use Rattle.std.specs.List.{filter}
 use Rattle.abt_machine.specs.declared.grammar.Form.{Form}
 use Rattle.abt_machine.specs.declared.grammar.Form.TheVariants as form
@@ -10,6 +10,7 @@ use Rattle.abt_machine.specs.declared.grammar.Number.TheVariants as number
 use Rattle.abt_machine.specs.Forms as grammar
 use Rattle.abt_machine.specs.Spelling.{is_number, value_of}
 use Rattle.abt_machine.specs.Words.{Text}
+use Rattle.abt_workload.specs.declared.forms.Head.{Head}
 use Rattle.abt_workload.specs.declared.forms.Slot.{Slot}
 use Rattle.abt_workload.specs.declared.forms.Slot.TheVariants as slot
 
@@ -35,9 +36,19 @@ abbrev pub is_headed : List grammar.Slot → Bool
 is_headed (grammar.Fixed text ∷ places) = true
 is_headed places = false
 
--- the forms of the lines that begin with this word, or all forms
-abbrev pub AreFormsOf : Text → List Form → Type 0
-AreFormsOf word group = (group ≡ filter (λ f. grammar.begins_with (grammar.slots f) (word ∷ [])) grammar.forms) ⊎ (group ≡ grammar.forms)
+-- the forms of the lines that begin with this word
+abbrev pub forms_of : Text → List Form
+forms_of word = filter (λ f. grammar.begins_with (grammar.slots f) (word ∷ [])) grammar.forms
+
+-- a line that begins with the word of a form and goes on with these has the form, in a text of this format
+abbrev pub has_rest : Format → List Text → Form → Bool
+has_rest F rest f = grammar.is_in F f && grammar.fits (drop 1 (grammar.slots f)) rest
+
+-- the forms of the lines that begin with this word stand at this place of all forms
+pub record IsHead (head : Head) : Type 0 where
+  pub ordered : head.from ≤ head.to
+  pub within : head.to ≤ length grammar.forms
+  pub group : take (head.to - head.from) (drop head.from grammar.forms) ≡ forms_of head.word.now
 
 -- the number that a word is, if it is one
 abbrev pub number_in : Text → Option ℕ

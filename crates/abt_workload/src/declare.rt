@@ -160,7 +160,7 @@ impl Draft {
         ensures { OnOk result (self.new ≡ with_copies self.old copies (unit_with role start (values numbers.now))) }
     {
         self.close(alloc)?;
-        let body = body_with(alloc, role, numbers);
+        let body = body_with(alloc, role, numbers)?;
         let start = start_with(role, start, numbers);
         self.last = Some(UnitPart { body, start });
         self.copies = copies;
@@ -344,14 +344,14 @@ fn thing_with(thing: Thing, words: &[&[u8]], numbers: &[Numbered]) -> Thing
     }
 }
 
-fn body_with(alloc: Global, role: Role, numbers: &[Numbered]) -> Body
+fn body_with(alloc: Global, role: Role, numbers: &[Numbered]) -> Result<Body, Want>
     requires { IsSmall (at (values numbers.now) 1) }
-    ensures { result ≡ body_with role (values numbers.now) }
+    ensures { IfOk result (λ body. body ≡ body_with role (values numbers.now)) }
 {
     match role {
-        Role::Ult => Body::Ult(Ops::new(Vec::new(alloc))),
-        Role::Task => Body::Task(Ops::new(Vec::new(alloc))),
-        Role::Sched => Body::Sched(SchedNo(value(numbers, 1) as u32)),
+        Role::Ult => Ok(Body::Ult(Ops::new(alloc, Vec::new(alloc))?)),
+        Role::Task => Ok(Body::Task(Ops::new(alloc, Vec::new(alloc))?)),
+        Role::Sched => Ok(Body::Sched(SchedNo(value(numbers, 1) as u32))),
     }
 }
 
@@ -413,24 +413,34 @@ fn unit_later(alloc: Global, n: u32, part: &UnitPart) -> Result<UnitPart, Want>
     ensures { IfOk result (λ later. later ≡ unit_later n part.now) }
 {
     let body = match &part.body {
-        Body::Ult(ops) => Body::Ult(ops_later(alloc, n, ops.items())?),
-        Body::Task(ops) => Body::Task(ops_later(alloc, n, ops.items())?),
+        Body::Ult(ops) => Body::Ult(ops_later(alloc, n, ops)?),
+        Body::Task(ops) => Body::Task(ops_later(alloc, n, ops)?),
         Body::Sched(g) => Body::Sched(*g),
     };
     let start = part.start;
     Ok(UnitPart { body, start })
 }
 
-// The same operations, whose words have numbers that are this much higher.
-fn ops_later(alloc: Global, n: u32, ops: &[Op]) -> Result<Ops, Want>
+// The same operations, whose words have numbers that are this much higher. A program without words is shared.
+fn ops_later(alloc: Global, n: u32, ops: &Ops) -> Result<Ops, Want>
     requires { All (λ w. w + n < 2 ^ 32) (flat_map said_by ops.now) }
     ensures { IfOk result (λ later. later ≡ map (op_later n) ops.now) }
+{
+    if n == 0 {
+        return Ok(ops.share()?);
+    }
+    Ok(Ops::new(alloc, list_later(alloc, n, ops.items())?)?)
+}
+
+fn list_later(alloc: Global, n: u32, ops: &[Op]) -> Result<Vec<Op>, Want>
+    requires { All (λ w. w + n < 2 ^ 32) (flat_map said_by ops.now) }
+    ensures { IfOk result (λ later. later.items ≡ map (op_later n) ops.now) }
 {
     let mut later = Vec::with_capacity(alloc, ops.len())?;
     for op in ops {
         later.push(op_later(n, *op))?;
     }
-    Ok(Ops::new(later))
+    Ok(later)
 }
 
 // The same operation, whose word, if it says one, has a number that is this much higher.
@@ -497,9 +507,9 @@ fn body_and(body: Body, op: Op) -> Result<Body, Want>
 fn ops_and(ops: Ops, op: Op) -> Result<Ops, Want>
     ensures { IfOk result (λ new. new ≡ ops ++ op ∷ []) }
 {
-    let mut items = ops.into_items();
-    items.push(op)?;
-    Ok(Ops::new(items))
+    let mut ops = ops;
+    ops.push(op)?;
+    Ok(ops)
 }
 
 // An operation with the numbers of its row.
@@ -517,12 +527,19 @@ fn op_with(op: Op, said: u32, first: u64, second: u64) -> Op
     requires second_small { IsSmall second }
     ensures { result ≡ op_with op said (first ∷ second ∷ []) }
 {
-    operations!(
-        numbered_as(op),
-        said,
-        first,
-        (first as u32),
-        (second as u32),
-        (second == 1)
-    )
+    let narrow = narrow(op, first);
+    let flag = second == 1;
+    let second = second as u32;
+    operations!(numbered_as(op), said, first, narrow, second, flag)
+}
+
+// The first number of an operation whose first number has 32 bits.
+fn narrow(op: Op, first: u64) -> u32
+    requires { is_wide op ≡ false → IsSmall first }
+    ensures { is_wide op ≡ false → result ≡ first }
+{
+    match op {
+        Op::Set(_) | Op::Add(_) => 0,
+        _ => first as u32,
+    }
 }

@@ -1,11 +1,11 @@
 //! The forms of a workload text's lines, as a table.
 
-ghost use Rattle.std.specs.Prelude.{◌≡◌, ◌&&◌, ◌||◌, bytes_eq, map};
-ghost use Rattle.abt_machine.specs.Forms.{begins_with, computes, fits, form_of, is_in, op_slots, slots, suits};
+ghost use Rattle.std.specs.Prelude.{◌≡◌, ◌≤◌, ◌&&◌, ◌||◌, All, IfSome, bytes_eq, drop, find, map};
+ghost use Rattle.abt_machine.specs.Forms.{begins_with, computes, fits, form_of, forms, is_in, op_slots, slots, suits};
 ghost use Rattle.abt_machine.specs.Faults.{is_unknown};
 ghost use Rattle.abt_machine.specs.declared.grammar.Form.TheVariants as form;
 ghost use Rattle.abt_machine.specs.declared.grammar.Format.TheVariants as format;
-ghost use Rattle.abt_workload.specs.Slots.{AreFormsOf, own_slots, slot_of};
+ghost use Rattle.abt_workload.specs.Slots.{IsHead, forms_of, has_rest, own_slots, slot_of};
 
 use abt_machine::{
     Access, Calc, Combine, FUNCTION_LIMIT, Form, Format, KEY_LIMIT, Number, ObjectNo, Op, PoolNo,
@@ -154,8 +154,16 @@ macro_rules! forms_with {
 
 static FORMS: [Form; 143] = operations!(forms_with());
 
+// All forms, in order.
+fn forms() -> &'static [Form]
+    ensures { result.now ≡ forms }
+{
+    FORMS.as_slice()
+}
+
 /// What stands at the places of a line of this form; of a `repeat` line after its first two words, that is
 /// at the places of its operation.
+#[inline]
 pub(crate) fn slots(form: Form) -> &'static [Slot]
     ensures { map slot_of result.now ≡ own_slots form }
 {
@@ -374,6 +382,7 @@ macro_rules! places_of {
     };
 }
 
+#[inline]
 fn op_slots(op: Op) -> &'static [Slot]
     ensures { map slot_of result.now ≡ op_slots op }
 {
@@ -387,6 +396,7 @@ pub(crate) fn is(word: &[u8], text: &str) -> bool
 }
 
 // Whether a word may stand at a place.
+#[inline]
 fn suits(slot: Slot, word: &[u8]) -> bool
     ensures { result ≡ suits (slot_of slot) word.now }
 {
@@ -420,10 +430,7 @@ fn is_repeat(op: Op, words: &[&[u8]]) -> bool
 {
     match words.split_first() {
         None => false,
-        Some((word, words)) => match words.split_first() {
-            None => false,
-            Some((_, words)) => is(word, "repeat") && fits(op_slots(op), words),
-        },
+        Some((word, rest)) => is(word, "repeat") && is_repeated(op, rest),
     }
 }
 
@@ -458,154 +465,189 @@ fn has_form(format: Format, form: Form, words: &[&[u8]]) -> bool
     }
 }
 
-// The forms that stand at the place of the first of these words that the word is, or all forms if it is none of them.
-macro_rules! forms_by {
-    ($word:expr; $($name:literal => $place:expr,)+) => {
-        $(if is($word, $name) { &FORMS[$place] } else)+ { FORMS.as_slice() }
+/// A word that lines begin with, and where the forms of these lines begin and end in `FORMS`.
+#[derive(Clone, Copy)]
+pub(crate) struct Head {
+    word: &'static str,
+    from: usize,
+    to: usize,
+}
+
+macro_rules! heads {
+    ($($word:literal => $from:literal..$to:literal,)+) => {
+        [$(Head { word: $word, from: $from, to: $to },)+]
     };
 }
 
-// The forms of the lines that begin with this word, or all forms if no line does.
-fn forms_of(word: &[u8]) -> &'static [Form]
-    ensures { AreFormsOf word.now result.now }
+// The words that lines begin with, by their first byte.
+static HEADS: [Head; 54] = heads!(
+    "abt" => 0..3,
+    "add" => 30..31,
+    "broadcast" => 54..55,
+    "bwait" => 63..64,
+    "create" => 40..41,
+    "cancel" => 42..43,
+    "cwait" => 52..53,
+    "calc" => 69..82,
+    "call" => 82..83,
+    "end" => 28..29,
+    "exit" => 38..39,
+    "ewait" => 55..56,
+    "eset" => 56..57,
+    "ereset" => 57..58,
+    "etest" => 58..59,
+    "fwait" => 59..60,
+    "fset" => 60..61,
+    "freset" => 61..62,
+    "ftest" => 62..63,
+    "join" => 41..42,
+    "keys" => 4..5,
+    "kset" => 33..34,
+    "kget" => 34..35,
+    "lock" => 47..48,
+    "load" => 50..51,
+    "migrate" => 43..44,
+    "migrateto" => 44..45,
+    "migratable" => 45..46,
+    "many" => 83..89,
+    "object" => 15..21,
+    "pool" => 5..10,
+    "print" => 32..33,
+    "resume" => 39..40,
+    "revive" => 46..47,
+    "rdlock" => 64..65,
+    "rwunlock" => 66..67,
+    "rwload" => 67..68,
+    "rwstore" => 68..69,
+    "repeat" => 89..143,
+    "streams" => 3..4,
+    "sched" => 10..14,
+    "stream" => 14..15,
+    "set" => 29..30,
+    "say" => 31..32,
+    "suspend" => 37..38,
+    "store" => 51..52,
+    "signal" => 53..54,
+    "trylock" => 48..49,
+    "units" => 21..22,
+    "unit" => 22..28,
+    "unlock" => 49..50,
+    "wrlock" => 65..66,
+    "yield" => 35..36,
+    "yieldto" => 36..37,
+);
+
+// The places in `HEADS` of the words that have this first byte.
+fn heads_at(first: u8) -> (usize, usize)
+    ensures ordered { result.0 ≤ result.1 }
+    ensures bound { result.1 ≤ 54 }
 {
-    match word.len() {
-        3 => forms_of_three(word),
-        4 => forms_of_four(word),
-        5 => forms_of_five(word),
-        6 => forms_of_six(word),
-        7 => forms_of_seven(word),
-        8 => forms_of_eight(word),
-        9 => forms_of_nine(word),
-        10 => forms_of_ten(word),
-        _ => FORMS.as_slice(),
+    match first {
+        b'a' => (0, 2),
+        b'b' => (2, 4),
+        b'c' => (4, 9),
+        b'e' => (9, 15),
+        b'f' => (15, 19),
+        b'j' => (19, 20),
+        b'k' => (20, 23),
+        b'l' => (23, 25),
+        b'm' => (25, 29),
+        b'o' => (29, 30),
+        b'p' => (30, 32),
+        b'r' => (32, 39),
+        b's' => (39, 47),
+        b't' => (47, 48),
+        b'u' => (48, 51),
+        b'w' => (51, 52),
+        b'y' => (52, 54),
+        _ => (0, 0),
     }
 }
 
-// The same for a word of three bytes.
-fn forms_of_three(word: &[u8]) -> &'static [Form]
-    ensures { AreFormsOf word.now result.now }
+// The words that lines begin with, of which this is the first byte.
+fn heads_of(first: u8) -> &'static [Head]
+    ensures { All IsHead result.now }
 {
-    forms_by!(word;
-        "abt" => 0..3,
-        "end" => 28..29,
-        "set" => 29..30,
-        "add" => 30..31,
-        "say" => 31..32,
-    )
+    let heads = HEADS.as_slice();
+    let (from, to) = heads_at(first);
+    &heads[from..to]
 }
 
-// The same for a word of four bytes.
-fn forms_of_four(word: &[u8]) -> &'static [Form]
-    ensures { AreFormsOf word.now result.now }
+// The forms of the lines that begin with this word, if the table has it.
+fn forms_of(word: &[u8]) -> Option<&'static [Form]>
+    ensures { IfSome result (λ group. group.now ≡ forms_of word.now) }
 {
-    forms_by!(word;
-        "keys" => 4..5,
-        "pool" => 5..10,
-        "unit" => 22..28,
-        "kset" => 33..34,
-        "kget" => 34..35,
-        "exit" => 38..39,
-        "join" => 41..42,
-        "lock" => 47..48,
-        "load" => 50..51,
-        "eset" => 56..57,
-        "fset" => 60..61,
-        "calc" => 69..82,
-        "call" => 82..83,
-        "many" => 83..89,
-    )
+    for head in heads_of(*word.first()?) {
+        if is(word, head.word) {
+            return Some(&forms()[head.from..head.to]);
+        }
+    }
+    None
 }
 
-// The same for a word of five bytes.
-fn forms_of_five(word: &[u8]) -> &'static [Form]
-    ensures { AreFormsOf word.now result.now }
-{
-    forms_by!(word;
-        "sched" => 10..14,
-        "units" => 21..22,
-        "print" => 32..33,
-        "yield" => 35..36,
-        "store" => 51..52,
-        "cwait" => 52..53,
-        "ewait" => 55..56,
-        "etest" => 58..59,
-        "fwait" => 59..60,
-        "ftest" => 62..63,
-        "bwait" => 63..64,
-    )
-}
-
-// The same for a word of six bytes.
-fn forms_of_six(word: &[u8]) -> &'static [Form]
-    ensures { AreFormsOf word.now result.now }
-{
-    forms_by!(word;
-        "stream" => 14..15,
-        "object" => 15..21,
-        "resume" => 39..40,
-        "create" => 40..41,
-        "cancel" => 42..43,
-        "revive" => 46..47,
-        "unlock" => 49..50,
-        "signal" => 53..54,
-        "ereset" => 57..58,
-        "freset" => 61..62,
-        "rdlock" => 64..65,
-        "wrlock" => 65..66,
-        "rwload" => 67..68,
-        "repeat" => 89..143,
-    )
-}
-
-// The same for a word of seven bytes.
-fn forms_of_seven(word: &[u8]) -> &'static [Form]
-    ensures { AreFormsOf word.now result.now }
-{
-    forms_by!(word;
-        "streams" => 3..4,
-        "yieldto" => 36..37,
-        "suspend" => 37..38,
-        "migrate" => 43..44,
-        "trylock" => 48..49,
-        "rwstore" => 68..69,
-    )
-}
-
-// The same for a word of eight bytes.
-fn forms_of_eight(word: &[u8]) -> &'static [Form]
-    ensures { AreFormsOf word.now result.now }
-{
-    forms_by!(word;
-        "rwunlock" => 66..67,
-    )
-}
-
-// The same for a word of nine bytes.
-fn forms_of_nine(word: &[u8]) -> &'static [Form]
-    ensures { AreFormsOf word.now result.now }
-{
-    forms_by!(word;
-        "migrateto" => 44..45,
-        "broadcast" => 54..55,
-    )
-}
-
-// The same for a word of ten bytes.
-fn forms_of_ten(word: &[u8]) -> &'static [Form]
-    ensures { AreFormsOf word.now result.now }
-{
-    forms_by!(word;
-        "migratable" => 45..46,
-    )
-}
-
-/// The form of a line of these words in a text of this format, if it has one.
+/// The form of a line of these words in a text of this format, if it has one. Only a line whose first word the table lacks is
+/// compared with all forms.
 pub(crate) fn form_of(format: Format, words: &[&[u8]]) -> Option<Form>
     ensures { result ≡ form_of format (map (λ w. w.now) words.now) }
 {
-    let word = words.first()?;
-    for form in forms_of(word) {
+    match words.split_first() {
+        None => None,
+        Some((word, rest)) => match forms_of(word) {
+            Some(group) => form_behind(format, group, rest),
+            None => form_among(format, words),
+        },
+    }
+}
+
+// The first of these forms that a line has which begins with their word and goes on with these.
+fn form_behind(format: Format, group: &[Form], rest: &[&[u8]]) -> Option<Form>
+    ensures { result ≡ find (has_rest format (map (λ w. w.now) rest.now)) group.now }
+{
+    for form in group {
+        if has_rest(format, *form, rest) {
+            return Some(*form);
+        }
+    }
+    None
+}
+
+// Whether a line that begins with the word of this form and goes on with these has the form, in a text of this format.
+#[inline]
+fn has_rest(format: Format, form: Form, rest: &[&[u8]]) -> bool
+    ensures { result ≡ has_rest format (map (λ w. w.now) rest.now) form }
+{
+    match form {
+        Form::Repeat(op) => is_in(format, form) && is_repeated(op, rest),
+        _ => is_in(format, form) && fits_behind(slots(form), rest),
+    }
+}
+
+// Whether these are the words of a `repeat` line of this operation, behind the first.
+fn is_repeated(op: Op, rest: &[&[u8]]) -> bool
+    ensures { result ≡ fits (drop 1 (slots (form.Repeat op))) (map (λ w. w.now) rest.now) }
+{
+    match rest.split_first() {
+        None => false,
+        Some((_, words)) => fits(op_slots(op), words),
+    }
+}
+
+// Whether a line has these places, of which the first is filled, and goes on with these words.
+#[inline]
+fn fits_behind(slots: &[Slot], rest: &[&[u8]]) -> bool
+    ensures { result ≡ fits (drop 1 (map slot_of slots.now)) (map (λ w. w.now) rest.now) }
+{
+    match slots.split_first() {
+        None => rest.is_empty(),
+        Some((_, places)) => fits(places, rest),
+    }
+}
+
+// The first of all forms that a line of these words has.
+fn form_among(format: Format, words: &[&[u8]]) -> Option<Form>
+    ensures { result ≡ form_of format (map (λ w. w.now) words.now) }
+{
+    for form in forms() {
         if has_form(format, *form, words) {
             return Some(*form);
         }
@@ -640,7 +682,7 @@ fn may_begin(format: Format, form: Form, words: &[&[u8]]) -> bool
 pub(crate) fn is_unknown(format: Format, words: &[&[u8]]) -> bool
     ensures { result ≡ is_unknown format (map (λ w. w.now) words.now) }
 {
-    for form in FORMS.as_slice() {
+    for form in forms() {
         if may_begin(format, *form, words) {
             return false;
         }

@@ -59,7 +59,7 @@ fn shape_line(form: Option<Form>, line: &[u8]) -> &'static [u8]
     match form {
         None => form_hint(line),
         Some(_) => {
-            if has_control(line) {
+            if has_control(line, false) {
                 b"the line has a control character\n"
             } else {
                 b"a line of this form must not stand here\n"

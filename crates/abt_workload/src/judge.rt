@@ -1,12 +1,13 @@
 //! The first fault of a line.
 
-ghost use Rattle.std.specs.Prelude.{◌≡◌, map, IfOk, nat_lt, unwrap_or};
+ghost use Rattle.std.specs.Prelude.{◌≡◌, map, true, IfOk, nat_lt, unwrap_or};
 ghost use Rattle.std.specs.Bool.{OnTrue};
 ghost use Rattle.std.specs.List.{list_all};
 ghost use Rattle.abt_machine.specs.Faults.{blocks_task, is_barred, is_beyond, is_early, is_homeless, is_long_word, is_misplaced, is_no_version, is_past_limit, is_there, is_twice, is_within, lacks_units, numbers_of, values};
 ghost use Rattle.abt_machine.specs.Spelling.{is_number};
 ghost use Rattle.abt_machine.specs.Forms.{numerals, section, slots};
 ghost use Rattle.abt_machine.specs.Declaring.{declared_units};
+ghost use Rattle.abt_workload.specs.Bytes.{IsClean};
 ghost use Rattle.abt_workload.specs.Judging.{IsJudged, IsShaped, later_fault};
 
 use crate::draft::Draft;
@@ -41,6 +42,10 @@ fn find_numbers(form: Form, words: &[&[u8]], numbers: &mut Vec<Numbered>) -> Res
     ensures numbers { IfOk result (λ all. OnTrue all (numbers.new.items ≡ numbers_of form (map (λ w. w.now) words.now))) }
 {
     numbers.clear();
+    // A line of one word has no number.
+    if words.len() < 2 {
+        return Ok(true);
+    }
     match form {
         Form::Repeat(_) => add_repeated(slots(form), words, numbers),
         _ => add_numbers(slots(form), words, numbers),
@@ -55,17 +60,19 @@ pub(crate) enum Verdict {
 }
 
 impl Draft {
-    /// The first fault of a line of these words, or its form; then these are its numbers.
+    /// The first fault of a line of these words, which is perhaps known to be clean, or its form; then these are its numbers.
     pub(crate) fn judge(
         &self,
         alloc: Global,
         line: &[u8],
+        is_clean: bool,
         words: &[&[u8]],
         numbers: &mut Vec<Numbered>,
     ) -> Result<Verdict, Want>
+        requires { is_clean ≡ true → IsClean line.now }
         ensures { IfOk result (λ v. IsJudged self.now line.now (map (λ w. w.now) words.now) v numbers.new.items) }
     {
-        let form = match self.shape(line, words) {
+        let form = match self.shape(line, is_clean, words) {
             Verdict::Faulty(fault) => return Ok(Verdict::Faulty(fault)),
             Verdict::Sound(form) => form,
         };
@@ -79,10 +86,11 @@ impl Draft {
     }
 
     // The first fault of a line up to `shape`, or its form.
-    fn shape(&self, line: &[u8], words: &[&[u8]]) -> Verdict
+    fn shape(&self, line: &[u8], is_clean: bool, words: &[&[u8]]) -> Verdict
+        requires { is_clean ≡ true → IsClean line.now }
         ensures { IsShaped self.now line.now (map (λ w. w.now) words.now) result }
     {
-        if !is_utf8(line) {
+        if !is_utf8(line, is_clean) {
             return Verdict::Faulty(Fault::Utf8);
         }
         if self.is_no_version(words) {
@@ -94,7 +102,7 @@ impl Draft {
             }
             return Verdict::Faulty(Fault::Shape);
         };
-        if has_control(line) {
+        if has_control(line, is_clean) {
             return Verdict::Faulty(Fault::Shape);
         }
         if self.is_misplaced(form) {

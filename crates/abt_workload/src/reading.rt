@@ -1,18 +1,19 @@
 //! The reader.
 
-ghost use Rattle.std.specs.Prelude.{◌≡◌, ◌++◌, ◌≤◌, length, nat_lt, IfErr, IfOk, OnOk, flat_map, map, option_to_list};
+ghost use Rattle.std.specs.Prelude.{◌≡◌, ◌++◌, ◌≤◌, length, nat_lt, true, IfErr, IfOk, OnOk, flat_map, map, option_to_list};
 ghost use Rattle.abt_machine.specs.Declaring.{parts_of};
 ghost use Rattle.abt_machine.specs.Faults.{line_fault};
 ghost use Rattle.abt_machine.specs.Grammar.{Reads, and_line, format_of};
 ghost use Rattle.abt_machine.specs.Limits.{text_limit};
 ghost use Rattle.abt_machine.specs.Spelling.{lines_of, words_of};
+ghost use Rattle.abt_workload.specs.Bytes.{IsClean};
 ghost use Rattle.abt_workload.specs.Declarable.{IsClosable};
 ghost use Rattle.abt_workload.specs.Reading.{IsCause, IsFirm, IsSeen};
 
 use crate::draft::Draft;
 use crate::judge::Verdict;
 use crate::numbers::Numbered;
-use crate::text::{first_line, format_of, is_skipped, is_utf8, words};
+use crate::text::{cut_line, format_of, is_skipped, is_utf8};
 use abt_machine::{Fault, Format, Items, Parts, SchedNo, Want, Workload};
 use std::alloc::Global;
 use thiserror::Error;
@@ -28,43 +29,29 @@ pub enum NotRead {
 }
 
 impl Draft {
-    // Takes one line: its first fault, or what is declared with it.
-    fn take_line<'a>(
-        &mut self,
-        alloc: Global,
-        line: &'a [u8],
-        found: &mut Vec<&'a [u8]>,
-        numbers: &mut Vec<Numbered>,
-    ) -> Result<Option<Fault>, Want>
-        requires { IsFirm self.old }
-        ensures fault { IfOk result (λ fault. fault ≡ line_fault self.old line.entry.now) }
-        ensures declared { IfOk result (λ fault. fault ≡ None → self.new ≡ and_line self.old line.entry.now) }
-    {
-        words(line, found)?;
-        self.take_words(alloc, line, found, numbers)
-    }
-
-    // Takes a line of these words.
-    fn take_words(
+    // Takes a line of these words, which is perhaps known to be clean: its first fault, or what is declared with it.
+    fn take_line(
         &mut self,
         alloc: Global,
         line: &[u8],
+        is_clean: bool,
         words: &[&[u8]],
         numbers: &mut Vec<Numbered>,
     ) -> Result<Option<Fault>, Want>
         requires firm { IsFirm self.old }
         requires words { map (λ w. w.now) words.now ≡ words_of line.now }
+        requires clean { is_clean ≡ true → IsClean line.now }
         ensures fault { IfOk result (λ fault. fault ≡ line_fault self.old line.now) }
         ensures declared { IfOk result (λ fault. fault ≡ None → self.new ≡ and_line self.old line.now) }
     {
         if is_skipped(words) {
-            return Ok(if is_utf8(line) {
+            return Ok(if is_utf8(line, is_clean) {
                 None
             } else {
                 Some(Fault::Utf8)
             });
         }
-        match self.judge(alloc, line, words, numbers)? {
+        match self.judge(alloc, line, is_clean, words, numbers)? {
             Verdict::Faulty(fault) => Ok(Some(fault)),
             Verdict::Sound(form) => {
                 self.declare(alloc, form, words, numbers)?;
@@ -136,8 +123,10 @@ fn read_lines(alloc: Global, bytes: &[u8]) -> Result<Draft, NotRead>
     let mut rest = bytes;
     let mut line = 0u32;
     while !rest.is_empty() {
-        let (text, after) = first_line(rest);
-        match draft.take_line(alloc, text, &mut found, &mut numbers) {
+        let Ok(cut) = cut_line(rest, &mut found) else {
+            return Err(NotRead::Memory);
+        };
+        match draft.take_line(alloc, cut.line, cut.is_clean, &found, &mut numbers) {
             Ok(None) => {}
             Ok(Some(fault)) => {
                 return Err(NotRead::Refused {
@@ -148,7 +137,7 @@ fn read_lines(alloc: Global, bytes: &[u8]) -> Result<Draft, NotRead>
             Err(_) => return Err(NotRead::Memory),
         }
         line += 1;
-        rest = after;
+        rest = cut.after;
     }
     if !draft.has_ended() {
         return Err(NotRead::Refused {

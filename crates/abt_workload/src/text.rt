@@ -1,10 +1,11 @@
 //! Lines, words and numbers of a text.
 
-ghost use Rattle.std.specs.Prelude.{◌≡◌, ◌<◌, ◌≤◌, ◌+◌, ◌∷◌, ◌==◌, ℕ, [], true, false, None, Some, codes, drop, if◌then◌else◌, map, length, slice_index, IfSome, IfNone, OnOk};
+ghost use Rattle.std.specs.Prelude.{◌≡◌, ◌<◌, ◌≤◌, ◌+◌, ◌∷◌, ◌==◌, ℕ, [], true, false, None, Some, codes, drop, if◌then◌else◌, map, length, slice_index, take, IfSome, IfNone, IfOk, OnOk};
 ghost use Rattle.std.specs.Str.{is_utf8};
 ghost use Rattle.abt_machine.specs.Spelling.{has_control, is_separator, lines_of, words_of};
 ghost use Rattle.abt_machine.specs.Faults.{begins_comment, is_skipped};
 ghost use Rattle.abt_machine.specs.Grammar.{format_in, format_of};
+ghost use Rattle.abt_workload.specs.Bytes.{IsClean, ends_word, is_printable};
 ghost use Rattle.abt_workload.specs.Slots.{number_in};
 
 use crate::forms::is;
@@ -30,7 +31,19 @@ pub fn first_line(text: &[u8]) -> (&[u8], &[u8])
     ensures line { lines_of text.now ≡ result.0.now ∷ lines_of result.1.now }
     ensures shorter { length result.1.now < length text.now }
 {
-    let end = line_end(text);
+    cut_at(text, line_end(text))
+}
+
+// The line that ends at this place, and what follows its line feed.
+fn cut_at(text: &[u8], end: usize) -> (&[u8], &[u8])
+    requires some { 0 < length text.now }
+    requires bound { end ≤ length text.now }
+    requires at { end < length text.now → (slice_index text.now end == 10) ≡ true }
+    requires before { (j : ℕ) → j < end → (slice_index text.now j == 10) ≡ false }
+    ensures line { lines_of text.now ≡ result.0.now ∷ lines_of result.1.now }
+    ensures shorter { length result.1.now < length text.now }
+    ensures cut { result.0.now ≡ take end text.now }
+{
     if end < text.len() {
         (&text[..end], &text[end + 1..])
     } else {
@@ -44,18 +57,18 @@ fn is_separator(b: u8) -> bool
     b == b' ' || b == b'\t'
 }
 
-// The line from its first byte that is not a separator.
-fn without_front(line: &[u8]) -> &[u8]
-    ensures words { words_of result.now ≡ words_of line.now }
-    ensures start { 0 < length result.now → is_separator (slice_index result.now 0) ≡ false }
-    ensures bound { length result.now ≤ length line.now }
+// The place of the first byte that is not a separator, or the length if there is none.
+fn word_start(text: &[u8]) -> usize
+    ensures bound { result ≤ length text.now }
+    ensures at { result < length text.now → is_separator (slice_index text.now result) ≡ false }
+    ensures before { (j : ℕ) → j < result → is_separator (slice_index text.now j) ≡ true }
 {
-    for (k, b) in line.iter().enumerate() {
+    for (k, b) in text.iter().enumerate() {
         if !is_separator(*b) {
-            return &line[k..];
+            return k;
         }
     }
-    &[]
+    text.len()
 }
 
 // The place of the first separator, or the length if there is none.
@@ -78,12 +91,118 @@ pub(crate) fn first_word(line: &[u8]) -> Option<(&[u8], &[u8])>
     ensures word { IfSome result (λ cut. words_of line.now ≡ cut.0.now ∷ words_of cut.1.now) }
     ensures shorter { IfSome result (λ cut. length cut.1.now < length line.now) }
 {
-    let line = without_front(line);
+    let line = &line[word_start(line)..];
     if line.is_empty() {
         return None;
     }
     let end = word_end(line);
     Some((&line[..end], &line[end..]))
+}
+
+/// The first line of a text, what follows its line feed, and whether it is known that the line is UTF-8 without a control
+/// character other than a tab.
+#[derive(Clone, Copy)]
+pub(crate) struct Cut<'a> {
+    pub(crate) line: &'a [u8],
+    pub(crate) after: &'a [u8],
+    pub(crate) is_clean: bool,
+}
+
+/// Cuts off the first line and finds its words, in place of those that were there, in one pass over its bytes.
+pub(crate) fn cut_line<'a>(text: &'a [u8], words: &mut Vec<&'a [u8]>) -> Result<Cut<'a>, Want>
+    requires { 0 < length text.now }
+    ensures line { IfOk result (λ cut. lines_of text.entry.now ≡ cut.line.now ∷ lines_of cut.after.now) }
+    ensures shorter { IfOk result (λ cut. length cut.after.now < length text.entry.now) }
+    ensures words { IfOk result (λ cut. map (λ w. w.now) words.new.items ≡ words_of cut.line.now) }
+    ensures clean { IfOk result (λ cut. cut.is_clean ≡ true → IsClean cut.line.now) }
+{
+    words.clear();
+    let mut is_clean = true;
+    let mut at = word_start(text);
+    while line_goes_on(text, at) {
+        let (length, is_printable) = word_length(&text[at..]);
+        let end = at + length;
+        words.push(&text[at..end])?;
+        is_clean = is_clean && is_printable;
+        at = end + word_start(&text[end..]);
+    }
+    let (line, after) = cut_at(text, at);
+    Ok(Cut {
+        line,
+        after,
+        is_clean,
+    })
+}
+
+// Whether the first line goes on at this place.
+fn line_goes_on(text: &[u8], at: usize) -> bool
+    ensures goes_on { result ≡ true → (at < length text.now) × ((slice_index text.now at == 10) ≡ false) }
+    ensures ends { result ≡ false → at < length text.now → (slice_index text.now at == 10) ≡ true }
+{
+    match text.get(at) {
+        None => false,
+        Some(b) => *b != b'\n',
+    }
+}
+
+// The place of the first separator or line feed, or the length if there is none; and whether all bytes before it are known to
+// be printable ones of ASCII.
+fn word_length(text: &[u8]) -> (usize, bool)
+    ensures bound { result.0 ≤ length text.now }
+    ensures at { result.0 < length text.now → ends_word (slice_index text.now result.0) ≡ true }
+    ensures before { (j : ℕ) → j < result.0 → ends_word (slice_index text.now j) ≡ false }
+    ensures printable { result.1 ≡ true → (j : ℕ) → j < result.0 → is_printable (slice_index text.now j) ≡ true }
+{
+    let end = printable_end(text);
+    match text.get(end) {
+        None => (end, true),
+        Some(b) => {
+            if ends_word(*b) {
+                (end, true)
+            } else {
+                (any_end(text), false)
+            }
+        }
+    }
+}
+
+// The place of the first byte that is not a printable one of ASCII, or the length if there is none.
+fn printable_end(text: &[u8]) -> usize
+    ensures bound { result ≤ length text.now }
+    ensures before { (j : ℕ) → j < result → is_printable (slice_index text.now j) ≡ true }
+{
+    for (k, b) in text.iter().enumerate() {
+        if !is_printable(*b) {
+            return k;
+        }
+    }
+    text.len()
+}
+
+// The place of the first separator or line feed, or the length if there is none.
+fn any_end(text: &[u8]) -> usize
+    ensures bound { result ≤ length text.now }
+    ensures at { result < length text.now → ends_word (slice_index text.now result) ≡ true }
+    ensures before { (j : ℕ) → j < result → ends_word (slice_index text.now j) ≡ false }
+{
+    for (k, b) in text.iter().enumerate() {
+        if ends_word(*b) {
+            return k;
+        }
+    }
+    text.len()
+}
+
+fn is_printable(b: u8) -> bool
+    ensures { result ≡ is_printable b }
+{
+    b > b' ' && b < 127
+}
+
+fn ends_word(b: u8) -> bool
+    ensures { result ≡ ends_word b }
+{
+    b == b'\n' || is_separator(b)
 }
 
 /// Finds the words of a line, in place of those that were there.
@@ -176,8 +295,15 @@ fn begins_comment(word: &[u8]) -> bool
     }
 }
 
-/// Whether a line has a control character other than a tab.
-pub(crate) fn has_control(line: &[u8]) -> bool
+/// Whether a line, which is perhaps known to be clean, has a control character other than a tab.
+pub(crate) fn has_control(line: &[u8], is_clean: bool) -> bool
+    requires { is_clean ≡ true → IsClean line.now }
+    ensures { result ≡ has_control line.now }
+{
+    !is_clean && bytes_have_control(line)
+}
+
+fn bytes_have_control(line: &[u8]) -> bool
     ensures { result ≡ has_control line.now }
 {
     for b in line {
@@ -188,7 +314,15 @@ pub(crate) fn has_control(line: &[u8]) -> bool
     false
 }
 
-pub(crate) fn is_utf8(line: &[u8]) -> bool
+/// Whether a line, which is perhaps known to be clean, is UTF-8.
+pub(crate) fn is_utf8(line: &[u8], is_clean: bool) -> bool
+    requires { is_clean ≡ true → IsClean line.now }
+    ensures { result ≡ is_utf8 line.now }
+{
+    is_clean || bytes_are_utf8(line)
+}
+
+fn bytes_are_utf8(line: &[u8]) -> bool
     ensures { result ≡ is_utf8 line.now }
 {
     match str::from_utf8(line) {

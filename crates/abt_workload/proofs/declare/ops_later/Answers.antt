@@ -1,7 +1,9 @@
-use Rattle.std.proofs.Common.{◌<◌, ◌+◌, ◌^◌, arith}
-use Rattle.abt_machine.specs.Operations.{said_by}
-use Rattle.abt_workload.proofs.Validity.{all-flat}
+use Rattle.std.proofs.Common.{◌≡◌, ◌∙◌, ℕ, ap, arith, map, sym}
+use Rattle.abt_machine.specs.Declaring.{op_later}
+use Rattle.abt_workload.proofs.Copies.{same-ops}
 use Rattle.abt_workload.proofs.declare.ops_later.Goals as goal
 
-pub op_later-requires : goal.op_later-requires
-op_later-requires c = all-flat said_by (λ w. w + c.args.n < 2 ^ 32) c.args.ops.now c.requires c.loop-op.op-index _ (omega arith)
+pub returns-then-n-eq0 : goal.returns-then-n-eq0
+returns-then-n-eq0 c =
+    let none : c.args.n ≡ 0 = omega (arith, c.if-n-eq0.true) in
+    c.in_ok-share.ensures ∙ (sym (same-ops c.args.ops.now) ∙ ap (λ (n : ℕ). map (op_later n) c.args.ops.now) (sym none))

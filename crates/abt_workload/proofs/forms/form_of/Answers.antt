@@ -1,6 +1,6 @@
-use Rattle.std.proofs.Common.{sym}
-use Rattle.abt_workload.proofs.Groups.{form-of-first}
+use Rattle.std.proofs.Common.{◌∙◌}
+use Rattle.abt_workload.proofs.Groups.{form-of-words}
 use Rattle.abt_workload.proofs.forms.form_of.Goals as goal
 
-pub loop-form-init : goal.loop-form-init
-loop-form-init c = form-of-first c.args.format c.args.words.now c.in_ok-word.word.now c.forms_of-form-items.result.now (sym c.in_ok-word.ensures.value) c.forms_of-form-items.ensures
+pub returns-in-Some-forms_of : goal.returns-in-Some-forms_of
+returns-in-Some-forms_of c = c.form_behind.ensures ∙ form-of-words c.args.format c.args.words.now c.in-Some.word.now c.in-Some.rest.now _ c.in-Some.ensures.cases.0 c.in-Some-forms_of.ensures

@@ -8,4 +8,4 @@ same : (test : Form → Bool) (xs : List Form) → xs ≡ forms → not (list_an
 same test xs e = ap (λ (fs : List Form). not (list_any test fs)) e
 
 pub loop-form-init : goal.loop-form-init
-loop-form-init c = same _ _ c.as_slice-form-items.ensures
+loop-form-init c = same _ _ c.forms-form-items.ensures

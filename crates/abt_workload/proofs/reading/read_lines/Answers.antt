@@ -6,20 +6,20 @@ use Rattle.abt_workload.proofs.reading.read_lines.Goals as goal
 pub loop-rest-preserved : goal.loop-rest-preserved
 loop-rest-preserved c =
     let i = c.loop-rest.invariant in
-    let e : drop c.loop-rest.line (lines_of c.args.bytes.now) ≡ c.first_line.result.0.now ∷ lines_of c.first_line.result.1.now = i.left ∙ c.first_line.ensures.line in
+    let e : drop c.loop-rest.line (lines_of c.args.bytes.now) ≡ c.in-Ok.cut.line.now ∷ lines_of c.in-Ok.cut.after.now = i.left ∙ c.in-Ok.ensures.line in
     let none = c.in-Ok-None.field-0-is in
     record {
       left = drop-more (lines_of c.args.bytes.now) c.loop-rest.line _ _ e;
       declared = declared-more (lines_of c.args.bytes.now) c.loop-rest.line _ _ c.loop-rest.draft _ e i.declared (c.in-Ok-None.ensures.declared none);
       least = below_more _ _ i.least (fault-here (lines_of c.args.bytes.now) c.loop-rest.line _ _ c.loop-rest.draft e i.declared ∙ (sym c.in-Ok-None.ensures.fault ∙ none));
       within = within-more (lines_of c.args.bytes.now) c.loop-rest.line _ _ e;
-      counted = let h = c.first_line.ensures.shorter in omega (arith, h);
+      counted = let h = c.in-Ok.ensures.shorter in omega (arith, h);
     }
 
 pub returns-in-Ok-Some-clause-refused : goal.returns-in-Ok-Some-clause-refused
 returns-in-Ok-Some-clause-refused c =
     let i = c.loop-rest.invariant in
-    let e : drop c.loop-rest.line (lines_of c.args.bytes.now) ≡ c.first_line.result.0.now ∷ lines_of c.first_line.result.1.now = i.left ∙ c.first_line.ensures.line in
+    let e : drop c.loop-rest.line (lines_of c.args.bytes.now) ≡ c.in-Ok.cut.line.now ∷ lines_of c.in-Ok.cut.after.now = i.left ∙ c.in-Ok.ensures.line in
     refuses-line c.args.bytes.now c.loop-rest.line _ _ c.loop-rest.draft _ _ c.requires e i.declared i.least c.in-Ok-Some.ensures.fault c.in-Ok-Some.field-0-is
 
 pub returns-then-not-has_ended-clause-refused : goal.returns-then-not-has_ended-clause-refused

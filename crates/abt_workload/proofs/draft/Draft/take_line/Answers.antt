@@ -2,7 +2,7 @@ use Rattle.std.proofs.Common.{◌≡◌, ◌∙◌, false, map, sym}
 use Rattle.abt_machine.specs.Faults.{is_skipped}
 use Rattle.abt_workload.proofs.Firm.{declarable}
 use Rattle.abt_workload.proofs.Taken.{judged, taken}
-use Rattle.abt_workload.proofs.draft.Draft.take_words.Goals as goal
+use Rattle.abt_workload.proofs.draft.Draft.take_line.Goals as goal
 
 pub declare-requires : goal.declare-requires
 declare-requires c =

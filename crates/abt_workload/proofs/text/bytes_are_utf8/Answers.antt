@@ -1,7 +1,7 @@
 use Rattle.std.proofs.Common.{◌≡◌, ℕ, List, Bool, true, false, refl, sym}
 use Rattle.std.specs.Str.{is_utf8, IsUtf8}
 use Rattle.std.proofs.lemmas.Str.{is_utf8-from_IsUtf8, IsUtf8-from_is_utf8}
-use Rattle.abt_workload.proofs.text.is_utf8.Goals as goal
+use Rattle.abt_workload.proofs.text.bytes_are_utf8.Goals as goal
 
 not-utf8 : (bs : List ℕ) → (IsUtf8 bs → ⊥) → false ≡ is_utf8 bs
 not-utf8 bs none = go (is_utf8 bs) refl
