@@ -23,7 +23,7 @@ use Rattle.abt_stream.specs.declared.stream.StreamParts.{StreamParts}
 use Rattle.abt_stream.specs.Streams.{FitsStream, StreamValue}
 use Rattle.abt_laws.proofs.Options.{some-injective}
 use Rattle.abt_drain.specs.Crews.{CrewValue, HaveStopped, IsCrew, log_from, moment_in, moment_of}
-use Rattle.abt_drain.specs.Ends.{AreLeft, HaveLeft, Leaves, LeavesRotation, logs_in}
+use Rattle.abt_drain.specs.Ends.{AreLeft, HaveLeft, Leaves, LeavesLogs, logs_in}
 use Rattle.abt_drain.specs.declared.run.Run.{Run}
 use Rattle.abt_drain.specs.declared.streams.Rests.{Rests}
 use Rattle.abt_record.specs.Records.{IsKept}
@@ -155,10 +155,10 @@ module _ (W : Parts) (Z : Stored) (n : ℕ) (crew : CrewValue) (is : IsCrew W Z 
 
   -- what a crew leaves that stopped, when its streams left these, and this picture was made
   pub crew-leaves : (run : Run) (rests : Rests) → HaveStopped W Z n (moment_in W crew) run.outcome → AreLeft crew.keeps crew.streams rests → run.journal ≡ rests.journal → run.steps ≡ rests.steps →
-      ShowsUnits W rests.parts.items crew.objects run.picture → All (SaysWordsOf W) run.picture → LeavesRotation W Z n crew.keeps run
+      ShowsUnits W rests.parts.items crew.objects run.picture → All (SaysWordsOf W) run.picture → LeavesLogs W Z n crew.keeps crew.streams run
   crew-leaves run rests stopped left journal steps shows words = record {
     events = left.events;
-    holds = (crew-ran left.events left.merges run.outcome stopped, crew-rotated left.events left.merges run.outcome stopped);
+    holds = (crew-ran left.events left.merges run.outcome stopped, crew-rotated left.events left.merges run.outcome stopped, left.merges);
     kept = subst (IsKept crew.keeps left.events) (sym journal) left.kept;
     pictured = crew-picture left.events left.merges rests.parts.items run.picture left.have shows words;
     counted = steps ∙ left.steps;

@@ -1,5 +1,6 @@
 pub mod Advancing
 pub mod Alone
+pub mod Answering
 pub mod Closing
 pub mod Coming
 pub mod Crewed

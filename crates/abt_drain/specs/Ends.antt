@@ -14,6 +14,7 @@ use Rattle.abt_stream.specs.Streams.{StreamValue}
 use Rattle.abt_stream.specs.declared.stream.StreamParts.{StreamParts}
 use Rattle.abt_drain.specs.declared.run.Run.{Run}
 use Rattle.abt_drain.specs.declared.streams.Rests.{Rests}
+use Rattle.abt_drain.specs.Answers.{HasAnswers}
 use Rattle.abt_drain.specs.InRotation.{IsMadeInRotation}
 use Rattle.abt_drain.specs.Pictures.{units_in_parts}
 use Rattle.abt_drain.specs.Runs.{HasRun}
@@ -77,10 +78,14 @@ pub record IsLeftOf (W : Parts) (keeps : Bool) (Property : List Event → Type 0
   pub pictured : IsPictureOf W events left.picture
   pub counted : left.steps ≡ steps_in events
 
--- the journal is a run that ended so
-abbrev pub LeavesRun : Parts → Stored → ℕ → Bool → Run → Type 0
-LeavesRun W Z n keeps left = IsLeftOf W keeps (λ J. HasRun W Z n J left.outcome) left
+-- the journal is a run that ended so, and each round visits its pools in an order that is answered for it
+abbrev pub LeavesRun : Parts → Stored → (ℕ → ℕ → List ℕ → Type 0) → ℕ → Bool → Run → Type 0
+LeavesRun W Z Answered n keeps left = IsLeftOf W keeps (λ J. HasRun W Z n J left.outcome × HasAnswers W Answered J) left
 
 -- and it was made in rotation
-abbrev pub LeavesRotation : Parts → Stored → ℕ → Bool → Run → Type 0
-LeavesRotation W Z n keeps left = IsLeftOf W keeps (λ J. HasRun W Z n J left.outcome × IsMadeInRotation W Z n J) left
+abbrev pub LeavesRotation : Parts → Stored → (ℕ → ℕ → List ℕ → Type 0) → ℕ → Bool → Run → Type 0
+LeavesRotation W Z Answered n keeps left = IsLeftOf W keeps (λ J. HasRun W Z n J left.outcome × HasAnswers W Answered J × IsMadeInRotation W Z n J) left
+
+-- the journal is a run that ended so, was made in rotation, and is that of these streams
+abbrev pub LeavesLogs : Parts → Stored → ℕ → Bool → List StreamValue → Run → Type 0
+LeavesLogs W Z n keeps streams left = IsLeftOf W keeps (λ J. HasRun W Z n J left.outcome × IsMadeInRotation W Z n J × MergesTo (log_of (logs_in streams)) J) left

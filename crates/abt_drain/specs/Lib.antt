@@ -1,3 +1,4 @@
+pub mod Answers
 pub mod Crews
 pub mod Ends
 pub mod InRotation

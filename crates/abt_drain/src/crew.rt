@@ -3,11 +3,13 @@
 ghost use Rattle.std.specs.Prelude.{◌≡◌, ◌<◌, ◌≤◌, ◌^◌, ℕ, true, IfOk, List, OnOk, Option, length};
 ghost use Rattle.abt_machine.specs.Stored.{CallsStored, Stored};
 ghost use Rattle.abt_machine.specs.Rounds.{OrdersStored};
-ghost use Rattle.abt_order.specs.Stored.{shapes_of, stored_of};
+ghost use Rattle.abt_order.specs.Stored.{IsAnsweredOrder, shapes_of, stored_of};
 ghost use Rattle.abt_machine.specs.Outcomes.{steps_in};
+ghost use Rattle.abt_stream.specs.Answers.{FitsAnswers};
 ghost use Rattle.abt_stream.specs.Streams.{FitsShapes, FitsStream};
+ghost use Rattle.abt_drain.specs.Answers.{AllAnswered};
 ghost use Rattle.abt_drain.specs.Crews.{HaveStopped, IsCrew, IsEnd, StaysAwake, TurnBy, TurnsBy, moment_in};
-ghost use Rattle.abt_drain.specs.Ends.{LeavesRotation};
+ghost use Rattle.abt_drain.specs.Ends.{LeavesLogs};
 ghost use Rattle.abt_drain.specs.Looks.{AreStreams};
 ghost use Rattle.abt_drain.specs.Rotations.{HasTurned, HaveRotated, HaveTurned, IsAwake, HasSeenNone};
 
@@ -57,6 +59,7 @@ impl<'w> Crew<'w> {
         requires orders { 2 ≤ length orders.now }
         ensures crew { IfOk result (λ crew. (returns : ℕ → ℕ → ℕ → List ℕ → Option ℕ) → IsCrew w.now (stored_of orders.now returns) steps crew) }
         ensures keeps { IfOk result (λ crew. crew.keeps ≡ keeps) }
+        ensures answers { IfOk result (λ crew. AllAnswered w.now (IsAnsweredOrder w.now orders.now) crew.streams) }
         ensures fresh { IfOk result (λ crew. (s : ℕ) → s < w.now.streams → HasSeenNone (moment_in w.now crew) s) }
         ensures awake { IfOk result (λ crew. IsAwake w.now (moment_in w.now crew)) }
         ensures rotated { IfOk result (λ crew. (returns : ℕ → ℕ → ℕ → List ℕ → Option ℕ) → HaveRotated w.now (stored_of orders.now returns) steps (moment_in w.now crew)) }
@@ -83,6 +86,7 @@ impl<'w> Crew<'w> {
         ensures turn { IfOk result (λ turn. TurnBy self.old.workload (stored_of orders.now (P.returns work.now)) self.old.steps s (moment_in self.old.workload self.old) turn (moment_in self.old.workload self.new)) }
         ensures crew { OnOk result (IsCrew self.old.workload (stored_of orders.now (P.returns work.now)) self.old.steps self.new) }
         ensures keeps { OnOk result (self.new.keeps ≡ self.old.keeps) }
+        ensures answers { OnOk result (AllAnswered self.old.workload (IsAnsweredOrder self.old.workload orders.now) self.old.streams → AllAnswered self.old.workload (IsAnsweredOrder self.old.workload orders.now) self.new.streams) }
         ensures awake { IfOk result (λ turn. StaysAwake self.old.workload turn (moment_in self.old.workload self.new)) }
     {
         advance(
@@ -109,6 +113,7 @@ impl<'w> Crew<'w> {
         ensures turned { IfOk result (λ stepped. HasTurned self.old.workload (stored_of orders.now (P.returns work.now)) self.old.steps s (moment_in self.old.workload self.old) stepped (moment_in self.old.workload self.new)) }
         ensures crew { OnOk result (IsCrew self.old.workload (stored_of orders.now (P.returns work.now)) self.old.steps self.new) }
         ensures keeps { OnOk result (self.new.keeps ≡ self.old.keeps) }
+        ensures answers { OnOk result (AllAnswered self.old.workload (IsAnsweredOrder self.old.workload orders.now) self.old.streams → AllAnswered self.old.workload (IsAnsweredOrder self.old.workload orders.now) self.new.streams) }
         ensures awake { IfOk result (λ stepped. stepped ≡ true → IsAwake self.old.workload (moment_in self.old.workload self.new)) }
     {
         'turns: loop {
@@ -130,6 +135,7 @@ impl<'w> Crew<'w> {
         ensures turned { IfOk result (λ stepped. HaveTurned self.old.workload (stored_of orders.now (P.returns work.now)) self.old.steps self.old.workload.streams (moment_in self.old.workload self.old) stepped (moment_in self.old.workload self.new)) }
         ensures crew { OnOk result (IsCrew self.old.workload (stored_of orders.now (P.returns work.now)) self.old.steps self.new) }
         ensures keeps { OnOk result (self.new.keeps ≡ self.old.keeps) }
+        ensures answers { OnOk result (AllAnswered self.old.workload (IsAnsweredOrder self.old.workload orders.now) self.old.streams → AllAnswered self.old.workload (IsAnsweredOrder self.old.workload orders.now) self.new.streams) }
         ensures awake { IfOk result (λ stepped. stepped ≡ true → IsAwake self.old.workload (moment_in self.old.workload self.new)) }
     {
         let mut stepped = false;
@@ -162,6 +168,7 @@ impl<'w> Crew<'w> {
         ensures stopped { IfOk result (HaveStopped self.old.workload (stored_of orders.now (P.returns work.now)) self.old.steps (moment_in self.old.workload self.new)) }
         ensures crew { OnOk result (IsCrew self.old.workload (stored_of orders.now (P.returns work.now)) self.old.steps self.new) }
         ensures keeps { OnOk result (self.new.keeps ≡ self.old.keeps) }
+        ensures answers { OnOk result (AllAnswered self.old.workload (IsAnsweredOrder self.old.workload orders.now) self.old.streams → AllAnswered self.old.workload (IsAnsweredOrder self.old.workload orders.now) self.new.streams) }
     {
         'rotations: loop {
             let stepped = self.rotate(orders, work)?;
@@ -175,7 +182,7 @@ impl<'w> Crew<'w> {
     /// What the run leaves, which ended so.
     pub(crate) fn end(self, alloc: Global, outcome: Outcome) -> Result<Run, Want>
         requires crew { (Z : Stored) × IsCrew self.workload Z self.steps self }
-        ensures { IfOk result (λ run. (Z : Stored) → IsCrew self.entry.workload Z self.entry.steps self.entry → HaveStopped self.entry.workload Z self.entry.steps (moment_in self.entry.workload self.entry) outcome → LeavesRotation self.entry.workload Z self.entry.steps self.entry.keeps run) }
+        ensures { IfOk result (λ run. (Z : Stored) → IsCrew self.entry.workload Z self.entry.steps self.entry → HaveStopped self.entry.workload Z self.entry.steps (moment_in self.entry.workload self.entry) outcome → LeavesLogs self.entry.workload Z self.entry.steps self.entry.keeps self.entry.streams run) }
     {
         let Crew {
             w,
@@ -220,6 +227,7 @@ fn advance<'w, P: Work>(
     ensures turn { IfOk result (λ turn. TurnsBy w.now (stored_of orders.now (P.returns work.now)) stream.old pass.old turn stream.new pass.new) }
     ensures fits { OnOk result (FitsStream w.now stream.new) }
     ensures shapes { OnOk result (FitsShapes w.now (stored_of orders.now (P.returns work.now)) stream.new) }
+    ensures answers { OnOk result (FitsAnswers w.now (IsAnsweredOrder w.now orders.now) stream.old → FitsAnswers w.now (IsAnsweredOrder w.now orders.now) stream.new) }
     ensures number { OnOk result (stream.new.number ≡ stream.old.number) }
     ensures keeps { OnOk result (stream.new.keeps ≡ stream.old.keeps) }
     ensures budget { OnOk result (stream.new.budget ≡ stream.old.budget) }

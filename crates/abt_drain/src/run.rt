@@ -2,7 +2,7 @@
 
 ghost use Rattle.std.specs.Prelude.{◌≤◌, IfOk, None, length};
 ghost use Rattle.abt_machine.specs.Stored.{CallsStored};
-ghost use Rattle.abt_order.specs.Stored.{stored_of};
+ghost use Rattle.abt_order.specs.Stored.{IsAnsweredOrder, stored_of};
 ghost use Rattle.abt_drain.specs.Ends.{LeavesRotation};
 
 use crate::crew::Crew;
@@ -33,7 +33,7 @@ pub fn drain(
     keeps: bool,
 ) -> Result<Run, Want>
     requires orders { 2 ≤ length orders.now }
-    ensures run { IfOk result (LeavesRotation w.now (stored_of orders.now (λ _ _ _ _. None)) steps keeps) }
+    ensures run { IfOk result (LeavesRotation w.now (stored_of orders.now (λ _ _ _ _. None)) (IsAnsweredOrder w.now orders.now) steps keeps) }
 {
     w.known();
     drain_with(alloc, w, orders, &AnyWork, steps, keeps)
@@ -51,7 +51,7 @@ pub fn drain_with<P: Work>(
 ) -> Result<Run, Want>
     requires orders { 2 ≤ length orders.now }
     requires calls { CallsStored w.now (P.count work.now) }
-    ensures run { IfOk result (LeavesRotation w.now (stored_of orders.now (P.returns work.now)) steps keeps) }
+    ensures run { IfOk result (LeavesRotation w.now (stored_of orders.now (P.returns work.now)) (IsAnsweredOrder w.now orders.now) steps keeps) }
 {
     let mut crew = Crew::new(alloc, w, orders, steps, keeps)?;
     let outcome = crew.run(orders, work)?;

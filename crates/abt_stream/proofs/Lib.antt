@@ -8,6 +8,7 @@ pub mod Made
 pub mod Operated
 pub mod Planned
 pub mod Rounding
+pub mod Rounds
 pub mod Spending
 pub mod Stacks
 pub mod Starting

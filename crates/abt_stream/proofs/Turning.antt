@@ -17,7 +17,7 @@ use Rattle.abt_machine.specs.Stored.{IsNoCall, IsReturned, Returns, Stored}
 use Rattle.abt_machine.specs.declared.workload.Parts.{Parts}
 use Rattle.abt_machine.specs.Acts.{Act, moved, received}
 use Rattle.abt_machine.specs.Acts as act
-use Rattle.abt_machine.specs.Frames.{entered, sched_of}
+use Rattle.abt_machine.specs.Frames.{entered, frame_at, sched_of}
 use Rattle.abt_machine.specs.Next.{Due, EndDue, EnterDue, LookDue, PutDue, StepDue, due_by, due_of_unit}
 use Rattle.abt_machine.specs.Numbers.{pool_no, unit_no}
 use Rattle.abt_machine.specs.Outcomes.{steps_in}
@@ -37,6 +37,7 @@ use Rattle.abt_stream.specs.Keeping.{KeepsStream}
 use Rattle.abt_stream.specs.Operated.{NotPerformed, OpBy}
 use Rattle.abt_stream.specs.Turned.{IsSpent, Made, MetEnd, Turned, Went}
 use Rattle.abt_stream.proofs.Kept.{keeps-entered, keeps-holding, keeps-same}
+use Rattle.abt_stream.proofs.Rounds.{looked-frames, performed-frames}
 
 -- what is due for a unit in hand is what is due for the stream
 pub hand-due : (W : Parts) (s : ℕ) (held : Held) (o : Owned) (d : Due) → held.tray ≡ [] → held.next ≡ None → held.hand ≡ Some o
@@ -197,36 +198,37 @@ module _ {P : Type 0} (moves : P → Site → ℕ → Act → Told → P → Typ
 
   pub end-keeps : (hand : Option Owned) (cause : Cause) (t : Turn) → IfHeld hand (EndBy moves old before cause t new after) → KeepsStream W old new
   end-keeps None cause t h = absurd h
-  end-keeps (Some o) cause turn.Moved h = keeps-holding W old new (what.End (unit_no o.number) cause) new.clock new.rooms (record old.held { hand = None; tray = old.held.tray ++ h.0 }) h.1.same
+  end-keeps (Some o) cause turn.Moved h = keeps-holding W old new (what.End (unit_no o.number) cause) new.clock new.rooms (record old.held { hand = None; tray = old.held.tray ++ h.0 }) tt refl h.1.same
   end-keeps (Some o) cause turn.Worn h = keeps-same W old new h.same
   end-keeps (Some o) cause t h = absurd h
 
   pub look-keeps : (next : Option Owned) (t : Turn) → IfHeld next (LookBy moves old before t new after) → KeepsStream W old new
   look-keeps None t h = absurd h
-  look-keeps (Some o) turn.Moved h = keeps-holding W old new (what.Look (unit_no o.number)) new.clock new.rooms (looked old.held o h.0 h.1) h.2.same
+  look-keeps (Some o) turn.Moved h = keeps-holding W old new (what.Look (unit_no o.number)) new.clock new.rooms (looked old.held o h.0 h.1) tt (looked-frames old.held o h.0 h.1) h.2.same
   look-keeps (Some o) turn.Worn h = keeps-same W old new h.same
   look-keeps (Some o) t h = absurd h
 
   pub put-keeps : (tray : List Owned) (t : Turn) → IfFirst tray (PutBy moves old before t new after) → KeepsStream W old new
   put-keeps [] t h = absurd h
-  put-keeps (o ∷ os) turn.Moved h = keeps-holding W old new (what.Put (unit_no o.number) (pool_no o.carried.home)) new.clock new.rooms (record old.held { tray = os }) h.same
+  put-keeps (o ∷ os) turn.Moved h = keeps-holding W old new (what.Put (unit_no o.number) (pool_no o.carried.home)) new.clock new.rooms (record old.held { tray = os }) tt refl h.same
   put-keeps (o ∷ os) turn.Worn h = keeps-same W old new h.same
   put-keeps (o ∷ os) t h = absurd h
 
   pub step-keeps : (hand : Option Owned) (a : Op) (t : Turn) → IfHeld hand (OpBy moves W old before a t new after) → KeepsStream W old new
   step-keeps None a t h = absurd h
-  step-keeps (Some o) a turn.Stepped h = keeps-holding W old new (step_of o h.1) new.clock new.rooms new.held h.4
+  step-keeps (Some o) a turn.Stepped h = keeps-holding W old new (step_of o h.1) new.clock new.rooms new.held tt (performed-frames old.held new.held (plan_of W old.number.0 a o) h.0 h.1 h.2) h.4
   step-keeps (Some o) a turn.Worn h = keeps-same W old new h.0
   step-keeps (Some o) a t h = absurd h
 
   pub call-keeps : (hand : Option Owned) (returns : ℕ → ℕ → List ℕ → Option ℕ) (t : Turn) → IfHeld hand (CallBy returns old t new) → KeepsStream W old new
   call-keeps None returns t h = absurd h
-  call-keeps (Some o) returns turn.Stepped h = keeps-holding W old new (call_of o h.0) (suc old.clock) new.rooms (stepped old.held (keeps (received h.0 (moved o)) [])) h.2
+  call-keeps (Some o) returns turn.Stepped h = keeps-holding W old new (call_of o h.0) (suc old.clock) new.rooms (stepped old.held (keeps (received h.0 (moved o)) [])) tt refl h.2
   call-keeps (Some o) returns turn.Worn h = keeps-same W old new h.1
   call-keeps (Some o) returns t h = absurd h
 
-  pub enter-keeps : (hand : Option Owned) (g : SchedNo) (t : Turn) → old.order ≡ [] → IfHeld hand (EnterBy W g.0 old t new) → KeepsStream W old new
-  enter-keeps None g t none h = absurd h
-  enter-keeps (Some o) g turn.Moved none h = keeps-entered W old new (what.Enter (unit_no o.number)) (suc old.clock) new.rooms g.0 o h.0 none h.1
-  enter-keeps (Some o) g turn.Worn none h = keeps-same W old new h.1
-  enter-keeps (Some o) g t none h = absurd h
+  pub enter-keeps : (hand : Option Owned) (g : SchedNo) (t : Turn) → IfHeld hand (λ o. body_at W o.number ≡ body.Sched g) → old.order ≡ [] → IfHeld hand (EnterBy W g.0 old t new) → KeepsStream W old new
+  enter-keeps None g t bodied none h = absurd h
+  enter-keeps (Some o) g turn.Moved bodied none h = keeps-entered W old new (what.Enter (unit_no o.number)) (suc old.clock) new.rooms g.0 o h.0 none tt
+      (ap (λ (b : Body). (frame_at (sched_of b) 0 false, old.held.own.top ∷ old.held.own.below)) (sym bodied)) h.1
+  enter-keeps (Some o) g turn.Worn bodied none h = keeps-same W old new h.1
+  enter-keeps (Some o) g t bodied none h = absurd h

@@ -14,7 +14,7 @@ use Rattle.abt_machine.specs.Acts as act
 use Rattle.abt_machine.specs.Frames.{frame_at, left, round_missed}
 use Rattle.abt_machine.specs.Next.{Due, LeaveDue, LookDue, PutDue, RoundDue, StepDue, due_by, due_of_frames}
 use Rattle.abt_machine.specs.Numbers.{unit_no}
-use Rattle.abt_machine.specs.Rounds.{IsNextPool}
+use Rattle.abt_machine.specs.Rounds.{IsOrder}
 use Rattle.abt_machine.specs.State.{Frame, Stream}
 use Rattle.abt_machine.specs.Fronts.{side_of}
 use Rattle.abt_machine.specs.Turns.{due_of, number_and_position}
@@ -25,6 +25,7 @@ use Rattle.abt_commons.specs.Replies.{Told, Done}
 use Rattle.abt_stream.specs.declared.turns.Turn.{Turn}
 use Rattle.abt_stream.specs.declared.turns.Turn.TheVariants as turn
 use Rattle.abt_machine.specs.declared.operations.Side.{Side}
+use Rattle.abt_stream.specs.Answers.{IsHeldOrder, IsNextAnswered, frames_of}
 use Rattle.abt_stream.specs.Events.{LeaveBy, VisitBy, VisitedBy, emptied, leaving, passed, took, with_top}
 use Rattle.abt_stream.specs.Keeping.{KeepsStream}
 use Rattle.abt_stream.specs.Streams.{FitsShapes, FitsStream, FrameValue, StreamValue, resting, seeing}
@@ -107,13 +108,14 @@ module _ (W : Parts) (s : StreamValue) (p : PoolNo) (own : s.held.own.top ≡ se
       ap (λ (b : Bool). with_top (if b then frame_at f.sched (suc f.round) true else record { sched = f.sched; round = f.round; seen = f.seen ++ p.0 ∷ []; empty = false }) s.held.own)
       (ne_eqb (length (pools_of W f.sched)) (suc (length f.seen)) (λ same. h (sym same)))
 
-  next-pool : (Z : Stored) → FitsShapes W Z s → IsNextPool W Z.orders s.held.own.top p.0
-  next-pool Z shaped =
+  -- the order that is held goes on with the pool
+  next-pool : (Answered : ℕ → ℕ → List ℕ → Type 0) → ((s.order ≢ []) → Answered s.top.scheduler.number s.top.round (pool_numbers s.order)) → IsNextAnswered Answered s.held.own.top p.0
+  next-pool Answered answered =
       let rest = pool_numbers (drop (suc s.at) s.order) in
       let front : (pool_numbers (take s.at s.order) ++ p.0 ∷ []) ++ rest ≡ pool_numbers s.order =
       ap (λ (xs : List ℕ). xs ++ rest) (sym (seen_more s.order s.at p e)) ∙
       (sym (map-append (λ (q : PoolNo). q.0) (take (suc s.at) s.order) (drop (suc s.at) s.order)) ∙ ap pool_numbers (take-append-drop (suc s.at) s.order)) in
-      subst (λ (f : Frame). IsNextPool W Z.orders f p.0) (sym own) (pool_numbers s.order, shaped (some-order s.order s.at p e), (rest, front))
+      subst (λ (f : Frame). IsNextAnswered Answered f p.0) (sym own) (pool_numbers s.order, answered (some-order s.order s.at p e), (rest, front))
 
 -- some units have a last one
 last-one : (units : List Owned) → units ≢ [] → (o : Owned) × (os : List Owned) × (units ≡ os ++ o ∷ [])
@@ -130,19 +132,19 @@ module _ {P : Type 0} (moves : P → Site → ℕ → Act → Told → P → Typ
         let event = what.Take p (unit_no o.number) in
         let heard = Some (site.Pool p, act.Take (side_of W old.number.0 p.0), act.Given o) in
         let later = took old o in
-        (event, made moves W old before new after later.held later.top later.below later.order later.at new.clock event heard Z h (due, next-pool W old p own fits e Z shaped, o, refl, refl, refl) went, tt)
+        (event, made moves W old before new after later.held later.top later.below later.order later.at new.clock event heard Z h (due, next-pool W old p own fits e (IsOrder W Z.orders) shaped, o, refl, refl, refl) went, tt)
     visited act.Miss turn.Moved went h =
         let more : MissesLast W old → ⊥ = λ ends. h.1 (ends-from W old p own fits e ends) in
         let heard = Some (site.Pool p, act.Take (side_of W old.number.0 p.0), act.Miss) in
         let later = passed old p in
         let own-is = ap (λ (m : Stream). record old.held { own = m }) (sym (missed-more W old p own fits e more)) in
-        (what.Miss p, made moves W old before new after later.held later.top later.below later.order later.at new.clock (what.Miss p) heard Z h.0 (due, next-pool W old p own fits e Z shaped, refl, own-is) went, more)
+        (what.Miss p, made moves W old before new after later.held later.top later.below later.order later.at new.clock (what.Miss p) heard Z h.0 (due, next-pool W old p own fits e (IsOrder W Z.orders) shaped, refl, own-is) went, more)
     visited act.Miss turn.EmptyRound went h =
         let ends = ends-to W old p own fits e h.1 in
         let heard = Some (site.Pool p, act.Take (side_of W old.number.0 p.0), act.Miss) in
         let later = emptied old in
         let own-is = ap (λ (m : Stream). record old.held { own = m }) (sym (missed-last W old p own fits e ends)) in
-        (p, made moves W old before new after later.held later.top later.below later.order later.at new.clock (what.Miss p) heard Z h.0 (due, next-pool W old p own fits e Z shaped, refl, own-is) went, ends)
+        (p, made moves W old before new after later.held later.top later.below later.order later.at new.clock (what.Miss p) heard Z h.0 (due, next-pool W old p own fits e (IsOrder W Z.orders) shaped, refl, own-is) went, ends)
     visited answer t went h = absurd h
 
     pub visit-turned : (t : Turn) → VisitBy moves old before p (side_of W old.number.0 p.0) t new after → Turned moves W Z old before t new after
@@ -150,19 +152,26 @@ module _ {P : Type 0} (moves : P → Site → ℕ → Act → Told → P → Typ
         let asked = act.Take (side_of W old.number.0 p.0) in
         let later : Held = record old.held { own = round_missed W p.0 old.held.own } in
         subst (λ (x : Turn). Turned moves W Z old before x new after) (sym worn.0)
-        (worn.1.same, inr (site.Pool p, asked, (what.Miss p, act.Miss, later, (due, next-pool W old p own fits e Z shaped, refl, refl)), worn.1.went), λ spent. let e : RoundDue ≡ StepDue = sym due ∙ spent.0 in cc)
+        (worn.1.same, inr (site.Pool p, asked, (what.Miss p, act.Miss, later, (due, next-pool W old p own fits e (IsOrder W Z.orders) shaped, refl, refl)), worn.1.went), λ spent. let e : RoundDue ≡ StepDue = sym due ∙ spent.0 in cc)
     visit-turned t (inr h) = visited h.0 t h.1 h.2
 
   -- the frames stay
-  visited-keeps : (p : PoolNo) → slice_get old.order old.at ≡ Some p → (answer : Answer) (t : Turn) → VisitedBy old p answer t new → KeepsStream W old new
-  visited-keeps p e (act.Given o) turn.Moved h = keeps-took W old new (what.Take p (unit_no o.number)) new.clock new.rooms o (some-order old.order old.at p e) h
-  visited-keeps p e act.Miss turn.Moved h = keeps-passed W old new (what.Miss p) new.clock new.rooms p h.0
-  visited-keeps p e act.Miss turn.EmptyRound h = keeps-emptied W old new (what.Miss p) new.clock new.rooms (some-order old.order old.at p e) h.0
-  visited-keeps p e answer t h = absurd h
+  module _ (p : PoolNo) (own : old.held.own.top ≡ seeing old.top (take old.at old.order)) (fits : FitsStream W old) (e : slice_get old.order old.at ≡ Some p) where
+    visited-keeps : (answer : Answer) (t : Turn) → VisitedBy old p answer t new → KeepsStream W old new
+    visited-keeps (act.Given o) turn.Moved h =
+        keeps-took W old new (what.Take p (unit_no o.number)) new.clock new.rooms o (some-order old.order old.at p e) (next-pool W old p own fits e (IsHeldOrder old) (λ some. (some, refl, refl, refl))) refl h
+    visited-keeps act.Miss turn.Moved h =
+        let more : MissesLast W old → ⊥ = λ ends. h.1 (ends-from W old p own fits e ends) in
+        keeps-passed W old new (what.Miss p) new.clock new.rooms p (next-pool W old p own fits e (IsHeldOrder old) (λ some. (some, refl, refl, refl))) (ap frames_of (sym (missed-more W old p own fits e more))) h.0
+    visited-keeps act.Miss turn.EmptyRound h =
+        let ends = ends-to W old p own fits e h.1 in
+        keeps-emptied W old new (what.Miss p) new.clock new.rooms (some-order old.order old.at p e) (next-pool W old p own fits e (IsHeldOrder old) (λ some. (some, refl, refl, refl)))
+        (ap frames_of (sym (missed-last W old p own fits e ends))) h.0
+    visited-keeps answer t h = absurd h
 
-  pub visit-keeps : (p : PoolNo) (d : Side) → slice_get old.order old.at ≡ Some p → (t : Turn) → VisitBy moves old before p d t new after → KeepsStream W old new
-  visit-keeps p d e t (inl worn) = keeps-same W old new worn.1.same
-  visit-keeps p d e t (inr h) = visited-keeps p e h.0 t h.2
+    pub visit-keeps : (d : Side) (t : Turn) → VisitBy moves old before p d t new after → KeepsStream W old new
+    visit-keeps d t (inl worn) = keeps-same W old new worn.1.same
+    visit-keeps d t (inr h) = visited-keeps h.0 t h.2
 
   pub leave-turned : (t : Turn) → due_of W old.number.0 old.held ≡ LeaveDue → old.held.framed ≢ [] → after ≡ before → LeaveBy old t new → (Z : Stored) → Turned moves W Z old before t new after
   leave-turned turn.Moved due some stays h Z =

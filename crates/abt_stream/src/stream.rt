@@ -2,6 +2,7 @@
 
 ghost use Rattle.std.specs.Prelude.{◌≡◌, ◌≢◌, ◌<◌, ◌≤◌, ◌↔◌, ◌^◌, [], IfOk, option_map, map, IsTrue, List, length};
 ghost use Rattle.abt_commons.specs.Acts.{owned};
+ghost use Rattle.abt_stream.specs.Answers.{Follows};
 ghost use Rattle.abt_stream.specs.Streams.{FitsShapes, FitsStream, IsIdle, hand_of, next_of, IsLog};
 ghost use Rattle.abt_stream.specs.Dues.{HasStep};
 ghost use Rattle.abt_stream.specs.Heeding.{Heeds};
@@ -179,6 +180,7 @@ impl Stream {
         ensures budget { self.new.budget ≡ self.old.budget }
         ensures fits { FitsStream w.now self.new }
         ensures shapes { (Z : Stored) → FitsShapes w.now Z self.old → FitsShapes w.now Z self.new }
+        ensures follows { Follows w.now self.old self.new }
         ensures pass { C.is_of commons.now pass.new }
         ensures number { C.number pass.new ≡ C.number pass.old }
     {

@@ -2,7 +2,7 @@
 
 ghost use Rattle.std.specs.Prelude.{◌≤◌, IfOk, false, length};
 ghost use Rattle.abt_machine.specs.Limits.{function_limit};
-ghost use Rattle.abt_order.specs.Stored.{stored_of};
+ghost use Rattle.abt_order.specs.Stored.{IsAnsweredOrder, stored_of};
 ghost use Rattle.abt_drain.specs.Ends.{LeavesRun};
 ghost use Rattle.calls_caller.specs.Squares.{square_of};
 
@@ -50,7 +50,7 @@ pub fn run_squares<R: Threads + Wait + Sync>(
     orders: &[StoredOrder],
 ) -> Result<Run, Want>
     requires { 2 ≤ length orders.now }
-    ensures { IfOk result (LeavesRun w.now (stored_of orders.now square_of) 10000 false) }
+    ensures { IfOk result (LeavesRun w.now (stored_of orders.now square_of) (IsAnsweredOrder w.now orders.now) 10000 false) }
 {
     w.known();
     run_streams(rt, alloc, w, orders, &Squares, STEPS, false)

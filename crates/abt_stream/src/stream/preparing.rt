@@ -1,9 +1,10 @@
 //! The memory that a turn needs.
 
 ghost use Rattle.std.specs.Prelude.{◌≡◌, ◌<◌, ◌+◌, ◌^◌, ◌↔◌, ℕ, [], List, OnOk, OnErr, IsSome, Option, false, ◌⊎◌, IsTrue, length, ◌≢◌};
+ghost use Rattle.abt_stream.specs.Answers.{FitsAnswers};
 ghost use Rattle.abt_stream.specs.Streams.{FitsShapes, FitsStream, IsIdle};
 ghost use Rattle.abt_stream.specs.Turned.{HasHandRoom, HasRoom, HoldsNext, IsPrepared, IsReady};
-ghost use Rattle.abt_order.specs.Schedulers.{IsSchedulerOf, IsStored};
+ghost use Rattle.abt_order.specs.Schedulers.{IsSchedulerOf, IsStored, pool_numbers};
 ghost use Rattle.abt_machine.specs.Valid.{IsValid};
 
 use super::Stream;
@@ -12,7 +13,7 @@ use abt_machine::{Want, Workload};
 use abt_order::StoredOrder;
 
 impl Stream {
-    ghost use Rattle.abt_order.specs.Stored.{shapes_of, stored_of};
+    ghost use Rattle.abt_order.specs.Stored.{IsAnsweredOrder, shapes_of, stored_of};
 
     /// Takes what one turn needs: room for one event, and for a frame and one piece of output if there is a unit in hand, and
     /// the next round's order, if the next event starts a round and none is held.
@@ -25,6 +26,7 @@ impl Stream {
         ensures ready { OnOk result (IsReady w.now self.new) }
         ensures fits { FitsStream w.now self.new }
         ensures shapes { (returns : ℕ → ℕ → ℕ → List ℕ → Option ℕ) → FitsShapes w.now (stored_of orders.now returns) self.old → FitsShapes w.now (stored_of orders.now returns) self.new }
+        ensures answers { FitsAnswers w.now (IsAnsweredOrder w.now orders.now) self.old → FitsAnswers w.now (IsAnsweredOrder w.now orders.now) self.new }
         ensures same { OnOk result (IsPrepared self.old self.new) }
         ensures kept { self.old.order ≢ [] → self.new ≡ record self.old { rooms = self.new.rooms } }
         ensures err { OnErr result (self.new ≡ record self.old { rooms = self.new.rooms }) }
@@ -112,6 +114,7 @@ impl Stream {
         requires order { self.old.order ≡ [] }
         requires idle { IsIdle self.old }
         ensures next { OnOk result (HoldsNext w.now (shapes_of orders.now) self.old self.new) }
+        ensures answered { OnOk result (IsAnsweredOrder w.now orders.now self.old.top.scheduler.number self.old.top.scheduler.round (pool_numbers self.new.order)) }
         ensures held { self.new.held ≡ self.old.held }
         ensures rooms { self.new.rooms ≡ self.old.rooms }
         ensures err { OnErr result (self.new ≡ self.old) }
@@ -135,6 +138,7 @@ impl Stream {
         requires order { self.old.order ≡ [] }
         requires idle { IsIdle self.old }
         ensures next { OnOk result (HoldsNext w.now (shapes_of orders.now) self.old self.new) }
+        ensures answered { OnOk result (IsAnsweredOrder w.now orders.now self.old.top.scheduler.number self.old.top.scheduler.round (pool_numbers self.new.order)) }
         ensures held { self.new.held ≡ self.old.held }
         ensures rooms { self.new.rooms ≡ self.old.rooms }
         ensures err { OnErr result (self.new ≡ self.old) }

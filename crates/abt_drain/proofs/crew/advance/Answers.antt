@@ -1,9 +1,10 @@
 -- A turn of one stream.
 use Rattle.std.proofs.Common.{◌^◌, refl, subst}
-use Rattle.abt_order.specs.Stored.{stored_of}
+use Rattle.abt_order.specs.Stored.{IsAnsweredOrder, stored_of}
 use Rattle.abt_commons.specs.Plains.{PlainMoves}
 use Rattle.abt_stream.specs.Heeding.{Heeds}
 use Rattle.abt_stream.specs.Turned.{Turned}
+use Rattle.abt_stream.proofs.Rounds.{follows-answers}
 use Rattle.abt_drain.proofs.Advancing.{turned-by}
 use Rattle.abt_drain.proofs.Prepared.{few-after, prepared-turns}
 use Rattle.abt_drain.proofs.crew.advance.Goals as goal
@@ -15,6 +16,9 @@ returns-clause-turn g c =
     (turned-by c.args.w.now Z c.prepare.new.self c.args.pass.now c.turn-turn.new.self c.turn-turn.new.pass c.turn-turn.result
     (subst (λ V. Turned (Heeds PlainMoves V) c.args.w.now Z c.prepare.new.self c.args.pass.now c.turn-turn.result c.turn-turn.new.self c.turn-turn.new.pass) c.requires.plain
     (c.turn-turn.ensures.turned Z (c.prepare.ensures.shapes (g.P.Work.returns c.args.work.now) c.requires.shapes) refl)))
+
+pub returns-clause-answers : goal.returns-clause-answers
+returns-clause-answers g c = λ fits. follows-answers c.args.w.now (IsAnsweredOrder c.args.w.now c.args.orders.now) c.prepare.new.self c.turn-turn.new.self c.turn-turn.ensures.follows (c.prepare.ensures.answers fits)
 
 pub returns-clause-few : goal.returns-clause-few
 returns-clause-few g c =

@@ -1,9 +1,10 @@
 -- One rotation.
 use Rattle.std.proofs.Common.{◌≡◌, ◌<◌, ◌+◌, suc, refl, sym, ◌∙◌, ap, subst, arith}
-use Rattle.abt_order.specs.Stored.{stored_of}
+use Rattle.abt_order.specs.Stored.{IsAnsweredOrder, stored_of}
+use Rattle.abt_drain.specs.Answers.{AllAnswered}
 use Rattle.abt_drain.specs.Crews.{CrewValue, moment_in}
 use Rattle.abt_drain.specs.Rotations.{HaveTurned}
-use Rattle.abt_drain.proofs.Crewed.{own-crew, own-stepped, own-turned}
+use Rattle.abt_drain.proofs.Crewed.{from-own, own-crew, own-stepped, own-turned}
 use Rattle.abt_drain.proofs.Rotating.{either, none-turned, turned-more}
 use Rattle.abt_drain.proofs.Taking.{differ}
 use Rattle.abt_drain.proofs.crew.Crew.rotate.Goals as goal
@@ -15,6 +16,7 @@ streams-init g c =
     record {
       crew = c.requires.crew;
       keeps = refl;
+      answers = λ all. all;
       turned = none-turned c.args.self.now.workload Z c.args.self.now.steps (moment_in c.args.self.now.workload c.args.self.now);
       none = λ first. refl;
       awake = λ first. c.requires.awake;
@@ -32,6 +34,7 @@ streams-preserved g c =
     record {
       crew = own-crew c.args.self.now.workload Z c.args.self.now.steps c.streams.self c.take_turns.new.self c.streams.invariant.crew c.in_ok-step.ensures.crew;
       keeps = c.in_ok-step.ensures.keeps ∙ c.streams.invariant.keeps;
+      answers = λ all. from-own (λ V k. AllAnswered V (IsAnsweredOrder V c.args.orders.now) c.streams.self.streams → AllAnswered V (IsAnsweredOrder V c.args.orders.now) c.take_turns.new.self.streams) c.args.self.now.workload Z c.args.self.now.steps c.streams.self c.streams.invariant.crew c.in_ok-step.ensures.answers (c.streams.invariant.answers all);
       turned = subst (λ k. HaveTurned c.args.self.now.workload Z c.args.self.now.steps k (moment_in c.args.self.now.workload c.args.self.now) c.if-stepped.stepped (moment_in c.args.self.now.workload c.take_turns.new.self)) next
           (subst (λ b. HaveTurned c.args.self.now.workload Z c.args.self.now.steps (suc c.streams.s) (moment_in c.args.self.now.workload c.args.self.now) b (moment_in c.args.self.now.workload c.take_turns.new.self)) is
           (turned-more c.args.self.now.workload Z c.args.self.now.steps c.streams.s (moment_in c.args.self.now.workload c.args.self.now) (moment_in c.args.self.now.workload c.streams.self)

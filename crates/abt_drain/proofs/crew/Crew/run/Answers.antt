@@ -1,9 +1,10 @@
 -- Rotations.
 use Rattle.std.proofs.Common.{Some, None, ◌∙◌}
-use Rattle.abt_order.specs.Stored.{stored_of}
+use Rattle.abt_order.specs.Stored.{IsAnsweredOrder, stored_of}
+use Rattle.abt_drain.specs.Answers.{AllAnswered}
 use Rattle.abt_drain.specs.Crews.{IsCrew, moment_in}
 use Rattle.abt_drain.specs.Rotations.{HaveTurned}
-use Rattle.abt_drain.proofs.Crewed.{own-crew, own-end, own-rotated, own-stepped}
+use Rattle.abt_drain.proofs.Crewed.{from-own, own-crew, own-end, own-rotated, own-stepped}
 use Rattle.abt_drain.proofs.Stopping.{goes-on-awake, goes-on-less, goes-on-rotated, has-stopped}
 use Rattle.abt_drain.proofs.crew.Crew.run.Goals as goal
 
@@ -36,6 +37,7 @@ rotations-preserved g c =
     record {
       crew = later;
       keeps = c.in_ok-stepped.ensures.keeps ∙ c.rotations.invariant.keeps;
+      answers = λ all. from-own (λ V k. AllAnswered V (IsAnsweredOrder V c.args.orders.now) c.rotations.self.streams → AllAnswered V (IsAnsweredOrder V c.args.orders.now) c.rotate.new.self.streams) c.args.self.now.workload Z c.args.self.now.steps c.rotations.self c.rotations.invariant.crew c.in_ok-stepped.ensures.answers (c.rotations.invariant.answers all);
       fresh = turned.fresh;
       rotated = goes-on-rotated c.args.self.now.workload Z c.args.self.now.steps c.rotations.self c.rotate.new.self c.rotations.invariant.crew later c.in_ok-stepped.stepped turned
           (own-end c.args.self.now.workload Z c.args.self.now.steps c.rotate.new.self c.rotate.new.self later c.in_ok-stepped.stepped None c.in-None.ensures) c.rotations.invariant.rotated;
@@ -43,3 +45,8 @@ rotations-preserved g c =
           (own-end c.args.self.now.workload Z c.args.self.now.steps c.rotate.new.self c.rotate.new.self later c.in_ok-stepped.stepped None c.in-None.ensures)
           (own-stepped c.args.self.now.workload Z c.args.self.now.steps c.rotations.self c.rotate.new.self c.rotations.invariant.crew c.in_ok-stepped.stepped c.in_ok-stepped.ensures.awake);
     }
+
+pub returns-in-Some-clause-answers : goal.returns-in-Some-clause-answers
+returns-in-Some-clause-answers g c =
+    let Z = stored_of c.args.orders.now (g.P.Work.returns c.args.work.now) in
+    λ all. from-own (λ V k. AllAnswered V (IsAnsweredOrder V c.args.orders.now) c.rotations.self.streams → AllAnswered V (IsAnsweredOrder V c.args.orders.now) c.rotate.new.self.streams) c.args.self.now.workload Z c.args.self.now.steps c.rotations.self c.rotations.invariant.crew c.in_ok-stepped.ensures.answers (c.rotations.invariant.answers all)

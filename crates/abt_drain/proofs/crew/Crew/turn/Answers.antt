@@ -1,8 +1,10 @@
 -- A turn of one stream.
-use Rattle.std.proofs.Common.{◌≡◌, ◌<◌, set, slice_get, Some, sym, ap, subst}
-use Rattle.abt_order.specs.Stored.{stored_of}
+use Rattle.std.proofs.Common.{◌≡◌, ◌<◌, OnOk, set, slice_get, Some, sym, ap, subst}
+use Rattle.abt_order.specs.Stored.{IsAnsweredOrder, stored_of}
+use Rattle.abt_drain.specs.Answers.{AllAnswered}
 use Rattle.abt_drain.specs.Crews.{CrewValue, IsCrew, moment_in}
 use Rattle.abt_drain.specs.Rotations.{IsAwake}
+use Rattle.abt_drain.proofs.Answering.{set-result}
 use Rattle.abt_drain.proofs.Crewed.{CrewResult, crew-at, crew-result, on-ok}
 use Rattle.abt_drain.proofs.crew.Crew.turn.Goals as goal
 
@@ -33,4 +35,11 @@ returns g c =
     let r = crew-result own.workload Z own.steps own is c.args.s lt c.index_mut.result.now c.advance.new.stream at c.advance.new.pass c.advance.result
     c.advance.ensures.turn c.advance.ensures.fits c.advance.ensures.shapes c.advance.ensures.number c.advance.ensures.keeps c.advance.ensures.budget c.advance.ensures.few c.advance.ensures.within c.advance.ensures.pass awake in
     let s = subst (λ (v : CrewValue). CrewResult v.workload Z v.steps c.args.s v c.advance.result (record own { objects = c.advance.new.pass; streams = set own.streams c.args.s c.advance.new.stream })) c.self.view_is r in
-    record { turn = s.turn; crew = s.is_crew; keeps = on-ok c.advance.result (ap (λ (v : CrewValue). v.keeps) c.self.view_is); awake = s.awake }
+    record {
+      turn = s.turn;
+      crew = s.is_crew;
+      keeps = on-ok c.advance.result (ap (λ (v : CrewValue). v.keeps) c.self.view_is);
+      awake = s.awake;
+      answers = subst (λ (v : CrewValue). OnOk c.advance.result (AllAnswered v.workload (IsAnsweredOrder v.workload c.args.orders.now) v.streams → AllAnswered v.workload (IsAnsweredOrder v.workload c.args.orders.now) (set own.streams c.args.s c.advance.new.stream)))
+          c.self.view_is (set-result own.workload (IsAnsweredOrder own.workload c.args.orders.now) c.advance.result own.streams c.args.s c.index_mut.result.now c.advance.new.stream at c.advance.ensures.answers);
+    }

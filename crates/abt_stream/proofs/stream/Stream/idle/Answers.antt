@@ -50,8 +50,9 @@ returns-clause-turned g c = λ Z shaped.
 
 pub returns-clause-keeps : goal.returns-clause-keeps
 returns-clause-keeps g c =
+    let own : c.args.self.now.held.own.top ≡ seeing c.args.self.now.top (take c.args.self.now.at c.args.self.now.order) = search rules in
     visit-keeps (Heeds (g.C.Commons.moves c.args.commons.now) (g.C.Commons.workload c.args.commons.now)) c.args.w.now c.args.self.now c.args.pass.now c.visit.new.self c.visit.new.pass
-    c.next_pool-p.result c.side-side.result c.next_pool-p.ensures c.visit.result c.visit.ensures.visit
+    c.next_pool-p.result own c.requires.fits c.next_pool-p.ensures c.side-side.result c.visit.result c.visit.ensures.visit
 
 pub returns-clause-fits : goal.returns-clause-fits
 returns-clause-fits g c =

@@ -22,7 +22,9 @@ returns-in-Enter-clause-turned g c = λ Z stored.
     enter-turned (Heeds (g.C.Commons.moves c.args.commons.now) (g.C.Commons.workload c.args.commons.now)) c.args.w.now c.args.self.now c.args.pass.now c.enter.new.self c.args.pass.now Z c.args.self.now.held.hand c.in-Enter.g c.enter.result refl due bodied refl c.enter.ensures
 
 pub returns-in-Enter-clause-keeps : goal.returns-in-Enter-clause-keeps
-returns-in-Enter-clause-keeps g c = enter-keeps (Heeds (g.C.Commons.moves c.args.commons.now) (g.C.Commons.workload c.args.commons.now)) c.args.w.now c.args.self.now c.args.pass.now c.enter.new.self c.args.pass.now c.args.self.now.held.hand c.in-Enter.g c.enter.result c.requires.order c.enter.ensures
+returns-in-Enter-clause-keeps g c =
+    let bodied = enter-body c.args.w.now c.args.self.now.number.0 c.args.self.now.held c.hand_due.result c.requires.tray c.requires.next c.args.self.now.held.hand c.in-Enter.g c.hand_due.ensures c.in-Enter.is in
+    enter-keeps (Heeds (g.C.Commons.moves c.args.commons.now) (g.C.Commons.workload c.args.commons.now)) c.args.w.now c.args.self.now c.args.pass.now c.enter.new.self c.args.pass.now c.args.self.now.held.hand c.in-Enter.g c.enter.result bodied c.requires.order c.enter.ensures
 
 pub returns-in-Some-clause-turned : goal.returns-in-Some-clause-turned
 returns-in-Some-clause-turned g c = λ Z stored.

@@ -35,6 +35,7 @@ returns-then-not-is_empty g c =
       budget = keeps.budget;
       fits = turn-fits (g.C.Commons.moves c.args.commons.now) (g.C.Commons.workload c.args.commons.now) c.args.w.now c.requires.w c.known.ensures c.args.self.now c.args.pass.now c.put.new.self c.put.new.pass c.requires.fits keeps nothing_stored c.put.result (turned nothing_stored);
       shapes = keeps.shapes;
+      follows = keeps.follows;
       pass = c.put.ensures.pass;
       number = c.put.ensures.number;
     }
@@ -53,6 +54,7 @@ returns-in-Taken g c =
       budget = keeps.budget;
       fits = turn-fits (g.C.Commons.moves c.args.commons.now) (g.C.Commons.workload c.args.commons.now) c.args.w.now c.requires.w c.known.ensures c.args.self.now c.args.pass.now c.look.new.self c.look.new.pass c.requires.fits keeps nothing_stored c.look.result (turned nothing_stored);
       shapes = keeps.shapes;
+      follows = keeps.follows;
       pass = c.look.ensures.pass;
       number = c.look.ensures.number;
     }
