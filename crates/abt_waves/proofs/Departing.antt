@@ -13,13 +13,15 @@ use Rattle.abt_commons.specs.AllPasses.{AreAll}
 use Rattle.abt_commons.specs.Held.{ObjectsValue}
 use Rattle.abt_laws.proofs.Options.{some-injective}
 use Rattle.abt_stream.specs.Streams.{StreamValue}
+use Rattle.abt_stream.specs.Answers.{FitsAnswers}
+use Rattle.abt_drain.specs.Answers.{AllAnswered}
 use Rattle.abt_drain.specs.Crews.{log_from}
 use Rattle.abt_waves.specs.declared.voyages.Returned.{Returned}
 use Rattle.abt_waves.specs.Fleets.{IsFleetOver}
 use Rattle.abt_waves.specs.Jobs.{HasReturned, JobValue, MayGo, jobs_of}
 use Rattle.abt_waves.specs.Locks.{HasSeenNothing, LocksValue}
 use Rattle.abt_waves.specs.Voyages.{HasPass}
-use Rattle.abt_waves.specs.Waves.{pass_in}
+use Rattle.abt_waves.specs.Waves.{pass_in, stream_in}
 use Rattle.abt_waves.proofs.Rejoining.{Came}
 
 -- an element within a list
@@ -62,6 +64,25 @@ module _ {Locks Pass : Type 0} (own : Locks) where
       let p : (pass : Pass) × (slice_get passes k ≡ Some pass) = within passes k (omega (arith, many)) in
       let l : (live : Bool) × (slice_get flags k ≡ Some live) = within flags k (omega (arith, marked)) in
       (s.0, p.0, l.0, s.1, p.1, some-injective (sym (job-at streams passes flags k s.0 p.0 l.0 s.1 p.1 l.1) ∙ e))
+
+  -- if the visits of each stream are answered when the wave begins, and those of a job stay so, they are answered when the streams are back
+  pub answers-back : (streams : List StreamValue) (passes : List Pass) (flags : List Bool) → length streams ≡ length passes → length streams ≡ length flags → (returned : List (Returned Pass)) → length returned ≡ length streams
+      → (W : Parts) (Answered : ℕ → ℕ → List ℕ → Type 0)
+      → ((i : ℕ) (job : JobValue Locks Pass) (back : Returned Pass) → i < length (jobs_of own streams passes flags) → FitsAnswers W Answered (slice_index_or (jobs_of own streams passes flags) i job).stream
+      → FitsAnswers W Answered (slice_index_or returned i back).stream) → AllAnswered W Answered streams → AllAnswered W Answered (map stream_in returned)
+  answers-back streams passes flags many marked returned count W Answered goes all s stream e =
+      let lt : s < length (map stream_in returned) = slice_get_within (map stream_in returned) s stream e in
+      let m : length (map stream_in returned) ≡ length returned = length-map returned stream_in in
+      let r : (back : Returned Pass) × (slice_get returned s ≡ Some back) = within returned s (omega arith) in
+      let o : (first : StreamValue) × (slice_get streams s ≡ Some first) = within streams s (omega (arith, count)) in
+      let p : (pass : Pass) × (slice_get passes s ≡ Some pass) = within passes s (omega (arith, count, many)) in
+      let l : (live : Bool) × (slice_get flags s ≡ Some live) = within flags s (omega (arith, count, marked)) in
+      let job = job_of o.0 p.0 l.0 in
+      let jobs = jobs_of own streams passes flags in
+      let at : slice_get jobs s ≡ Some job = job-at streams passes flags s o.0 p.0 l.0 o.1 p.1 l.1 in
+      let before : FitsAnswers W Answered (slice_index_or jobs s job).stream = subst (λ (j : JobValue Locks Pass). FitsAnswers W Answered j.stream) (sym (get_or_from_slice_get jobs s job job at)) (all s o.0 o.1) in
+      let after : FitsAnswers W Answered r.0.stream = subst (λ (b : Returned Pass). FitsAnswers W Answered b.stream) (get_or_from_slice_get returned s r.0 r.0 r.1) (goes s job r.0 (slice_get_within jobs s job at) before) in
+      subst (FitsAnswers W Answered) (some-injective (sym (slice_get-map stream_in returned s ∙ ap (option_map stream_in) r.1) ∙ e)) after
 
 module _ {Locks Lock Pass : Type 0} (IsOf : Locks → Pass → Type 0) (value : Locks → LocksValue Lock Pass) (lock : Site → Lock) (clock : ObjectsValue → Lock → ℕ) (own : Locks) (Z : Stored) (n : ℕ) (streams : List StreamValue)
     (is : IsFleetOver lock clock (value own).objects.workload Z n (value own).objects streams) (passes : List Pass) (all : AreAll (IsOf own) (value own).number (value own).objects.workload.streams passes)

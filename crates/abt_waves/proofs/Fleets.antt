@@ -26,6 +26,7 @@ use Rattle.abt_stream.specs.declared.stream.StreamParts.{StreamParts}
 use Rattle.abt_stream.specs.Streams.{StreamValue}
 use Rattle.abt_drain.specs.declared.run.Run.{Run}
 use Rattle.abt_drain.specs.declared.streams.Rests.{Rests}
+use Rattle.abt_drain.specs.Answers.{AllAnswered}
 use Rattle.abt_drain.specs.Crews.{AllKeep, AreStarted, CrewValue, IsCrew, moment_in, moment_of}
 use Rattle.abt_drain.specs.Ends.{AreLeft, HaveLeft, LeavesRotation, LeavesRun, logs_in}
 use Rattle.abt_drain.specs.Looks.{EndedWith}
@@ -33,13 +34,14 @@ use Rattle.abt_drain.specs.Moments.{Moment, made_at}
 use Rattle.abt_drain.specs.Pictures.{ShowsUnits}
 use Rattle.abt_drain.specs.Rotations.{work_at}
 use Rattle.abt_drain.specs.Runs.{HasRun, IsRunOf}
+use Rattle.abt_drain.proofs.Answering.{merged-answers}
 use Rattle.abt_drain.proofs.Closing.{come-logs, come-merges, come-picture}
 use Rattle.abt_drain.proofs.Coming.{come-ran}
 use Rattle.abt_drain.proofs.Journals.{come-lamport, has-come}
 use Rattle.abt_drain.proofs.Started.{are-streams, is-start}
 use Rattle.abt_drain.proofs.Starting.{start-come, start-fresh}
 use Rattle.abt_drain.proofs.Stopping.{looks-at, made-same}
-use Rattle.abt_waves.specs.Ends.{LeavesWaves}
+use Rattle.abt_waves.specs.Ends.{LeavesLogs, LeavesWaves}
 use Rattle.abt_waves.specs.Fleets.{IsFleet, IsFleetOver, MakesWave, MakesWaveOver, moment_over}
 use Rattle.abt_waves.specs.Leaving.{BeginsRounds, HasLeft, Lowers}
 use Rattle.abt_waves.specs.Locks.{TellsSites}
@@ -121,18 +123,18 @@ own-run W Z n J o several is lamport = record {
 }
 
 -- what waves of several streams leave is what a run leaves
-pub own-leaves : (W : Parts) (Z : Stored) (n : ℕ) (keeps : Bool) (left : Run) → 2 ≤ W.streams → LeavesWaves own_lock W Z n keeps left → LeavesRun W Z n keeps left
-own-leaves W Z n keeps left several leaves = record {
+pub own-leaves : (W : Parts) (Z : Stored) (Answered : ℕ → ℕ → List ℕ → Type 0) (n : ℕ) (keeps : Bool) (left : Run) → 2 ≤ W.streams → LeavesWaves own_lock W Z Answered n keeps left → LeavesRun W Z Answered n keeps left
+own-leaves W Z Answered n keeps left several leaves = record {
   events = leaves.events;
-  holds = own-run W Z n leaves.events left.outcome several leaves.holds.0 (leaves.holds.1 (λ x y e. e));
+  holds = (own-run W Z n leaves.events left.outcome several leaves.holds.0 (leaves.holds.2 (λ x y e. e)), leaves.holds.1);
   kept = leaves.kept;
   pictured = leaves.pictured;
   counted = leaves.counted;
 }
 
 -- and so is what a rotation leaves
-pub rotation-leaves : (W : Parts) (Z : Stored) (n : ℕ) (keeps : Bool) (left : Run) → LeavesRotation W Z n keeps left → LeavesRun W Z n keeps left
-rotation-leaves W Z n keeps left leaves = record { events = leaves.events; holds = leaves.holds.0; kept = leaves.kept; pictured = leaves.pictured; counted = leaves.counted }
+pub rotation-leaves : (W : Parts) (Z : Stored) (Answered : ℕ → ℕ → List ℕ → Type 0) (n : ℕ) (keeps : Bool) (left : Run) → LeavesRotation W Z Answered n keeps left → LeavesRun W Z Answered n keeps left
+rotation-leaves W Z Answered n keeps left leaves = record { events = leaves.events; holds = (leaves.holds.0, leaves.holds.1); kept = leaves.kept; pictured = leaves.pictured; counted = leaves.counted }
 
 -- Any locks.
 
@@ -235,11 +237,22 @@ module _ {Lock : Type 0} (lock : Site → Lock) (clock : ObjectsValue → Lock �
 
   -- what a run that ended so leaves
   pub fleet-leaves : (W : Parts) (Z : Stored) (n : ℕ) (fleet : CrewValue) (o : Outcome) → HasEnded lock clock W Z n fleet o → (rests : Rests) → AreLeft fleet.keeps fleet.streams rests →
-      (rows : List Row) → ShowsUnits W rests.parts.items fleet.objects rows → All (SaysWordsOf W) rows → LeavesWaves lock W Z n fleet.keeps (record { journal = rests.journal; steps = rests.steps; picture = rows; outcome = o })
+      (rows : List Row) → ShowsUnits W rests.parts.items fleet.objects rows → All (SaysWordsOf W) rows → LeavesLogs lock W Z n fleet.keeps fleet.streams (record { journal = rests.journal; steps = rests.steps; picture = rows; outcome = o })
   fleet-leaves W Z n fleet o ended rests left rows shows words = record {
     events = left.events;
-    holds = (fleet-ran W Z n fleet ended.fleet_is left.events left.merges o ended.looks, fleet-lamport W Z n fleet ended.fleet_is left.events left.merges);
+    holds = (fleet-ran W Z n fleet ended.fleet_is left.events left.merges o ended.looks, fleet-lamport W Z n fleet ended.fleet_is left.events left.merges, left.merges);
     kept = left.kept;
     pictured = fleet-picture W Z n fleet ended.fleet_is left.events left.merges rests.parts.items rows left.have shows words;
     counted = left.steps;
+  }
+
+  -- what a fleet leaves whose visits are answered
+  pub waves-answers : (W : Parts) (Z : Stored) (Answered : ℕ → ℕ → List ℕ → Type 0) (n : ℕ) (fleet : CrewValue) (run : Run) → IsFleetOf lock clock W Z n fleet → AllAnswered W Answered fleet.streams
+      → LeavesLogs lock W Z n fleet.keeps fleet.streams run → LeavesWaves lock W Z Answered n fleet.keeps run
+  waves-answers W Z Answered n fleet run is all left = record {
+    events = left.events;
+    holds = (left.holds.0, merged-answers W Answered fleet.streams left.events (λ s stream e. (is.fleet_is.streams_are.own s stream e).number) all left.holds.2, left.holds.1);
+    kept = left.kept;
+    pictured = left.pictured;
+    counted = left.counted;
   }

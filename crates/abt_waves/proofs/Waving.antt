@@ -11,6 +11,8 @@ use Rattle.abt_interleave.specs.Weaving.{TellsLocks}
 use Rattle.abt_commons.specs.AllPasses.{AreAll}
 use Rattle.abt_commons.specs.Held.{ObjectsValue}
 use Rattle.abt_stream.specs.Streams.{StreamValue}
+use Rattle.abt_stream.specs.Answers.{FitsAnswers}
+use Rattle.abt_drain.specs.Answers.{AllAnswered}
 use Rattle.abt_drain.specs.Crews.{AllKeep, moment_of}
 use Rattle.abt_waves.specs.declared.voyages.Returned.{Returned}
 use Rattle.abt_waves.specs.declared.voyages.Stop.{Stop}
@@ -20,7 +22,7 @@ use Rattle.abt_waves.specs.Jobs.{HasReturned, JobValue, MayGo, jobs_of}
 use Rattle.abt_waves.specs.Leaving.{HasLeft}
 use Rattle.abt_waves.specs.Locks.{AreClosed, HasSeenNothing, LocksValue}
 use Rattle.abt_waves.specs.Waves.{pass_in, stop_in, stream_in}
-use Rattle.abt_waves.proofs.Departing.{all-at, came, may-go, passes-back, passes-many, returned-many}
+use Rattle.abt_waves.proofs.Departing.{all-at, answers-back, came, may-go, passes-back, passes-many, returned-many}
 use Rattle.abt_waves.proofs.Rejoining.{Came, has-left, keep-after, makes-wave, rejoined, stays}
 
 module _ {Locks Lock Pass : Type 0} (IsOf : Locks → Pass → Type 0) (value : Locks → LocksValue Lock Pass) (lock : Site → Lock) (clock : ObjectsValue → Lock → ℕ) (tells : TellsLocks Lock)
@@ -113,3 +115,12 @@ module _ {Locks Lock Pass : Type 0} (IsOf : Locks → Pass → Type 0) (value : 
 
               pub keep-on : (k : Bool) → AllKeep k streams → AllKeep k out
               keep-on k kept = subst (AllKeep k) (sym out_are) (keep-after (IsOf own) locks lock clock tells same-clocks Z n streams flags opened count-own returned back-many all-came held left-own k kept)
+
+              -- if the visits of each stream are answered they are so afterwards
+              pub answers-on : (Answered : ℕ → ℕ → List ℕ → Type 0)
+                  → ((i : ℕ) (job : JobValue Locks Pass) (back : Returned Pass) → i < length jobs → FitsAnswers W Answered (slice_index_or jobs i job).stream → FitsAnswers W Answered (slice_index_or returned i back).stream)
+                  → AllAnswered W Answered streams → AllAnswered W Answered out
+              answers-on Answered goes all = subst (AllAnswered W Answered) (sym out_are)
+                  (answers-back own streams passes flags many-passes many-flags returned back-many W Answered
+                  (subst (λ (js : List (JobValue Locks Pass)). (i : ℕ) (job : JobValue Locks Pass) (back : Returned Pass) → i < length js → FitsAnswers W Answered (slice_index_or js i job).stream → FitsAnswers W Answered (slice_index_or returned i back).stream)
+                  jobs_are goes) all)

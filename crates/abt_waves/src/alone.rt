@@ -4,7 +4,8 @@ ghost use Rattle.std.specs.Prelude.{◌≡◌, ◌<◌, ◌≤◌, ◌^◌, IfOk
 ghost use Rattle.abt_machine.specs.Outcomes.{steps_in};
 ghost use Rattle.abt_machine.specs.Rounds.{OrdersStored};
 ghost use Rattle.abt_machine.specs.Stored.{CallsStored};
-ghost use Rattle.abt_order.specs.Stored.{shapes_of, stored_of};
+ghost use Rattle.abt_order.specs.Stored.{IsAnsweredOrder, shapes_of, stored_of};
+ghost use Rattle.abt_stream.specs.Answers.{FitsAnswers};
 ghost use Rattle.abt_stream.specs.Streams.{FitsShapes, FitsStream};
 ghost use Rattle.abt_drain.specs.Crews.{TurnsBy};
 ghost use Rattle.abt_waves.specs.Staying.{BeginsAnew, MayEnd, StaysCrew};
@@ -106,6 +107,7 @@ pub(crate) fn go_alone<'w, R: Wait, P: Work>(
     requires shapes { FitsShapes w.now (stored_of orders.now (P.returns work.now)) stream.old }
     ensures stays { IfOk result (λ left. StaysCrew w.now (stored_of orders.now (P.returns work.now)) stream.old objects.entry stream.new left) }
     ensures fresh { OnOk result (BeginsAnew w.now (stored_of orders.now (P.returns work.now)) stream.old objects.entry stream.new) }
+    ensures answers { OnOk result (FitsAnswers w.now (IsAnsweredOrder w.now orders.now) stream.old → FitsAnswers w.now (IsAnsweredOrder w.now orders.now) stream.new) }
 {
     let (plain, mut pass) = Plain::make(objects);
     turns(
@@ -152,6 +154,7 @@ fn turns<'w, R: Wait, P: Work>(
     requires shapes { FitsShapes w.now (stored_of orders.now (P.returns work.now)) stream.old }
     ensures stays { OnOk result (StaysCrew w.now (stored_of orders.now (P.returns work.now)) stream.old pass.old stream.new pass.new) }
     ensures pass { OnOk result (pass.new.workload ≡ w.now) }
+    ensures answers { OnOk result (FitsAnswers w.now (IsAnsweredOrder w.now orders.now) stream.old → FitsAnswers w.now (IsAnsweredOrder w.now orders.now) stream.new) }
     ensures fresh { OnOk result (BeginsAnew w.now (stored_of orders.now (P.returns work.now)) stream.old pass.old stream.new) }
 {
     let puts = Puts::new();
@@ -234,6 +237,7 @@ fn advance<'w, P: Work>(
     ensures turn { IfOk result (λ turn. TurnsBy w.now (stored_of orders.now (P.returns work.now)) stream.old pass.old turn stream.new pass.new) }
     ensures fits { OnOk result (FitsStream w.now stream.new) }
     ensures shapes { OnOk result (FitsShapes w.now (stored_of orders.now (P.returns work.now)) stream.new) }
+    ensures answers { OnOk result (FitsAnswers w.now (IsAnsweredOrder w.now orders.now) stream.old → FitsAnswers w.now (IsAnsweredOrder w.now orders.now) stream.new) }
     ensures number { OnOk result (stream.new.number ≡ stream.old.number) }
     ensures keeps { OnOk result (stream.new.keeps ≡ stream.old.keeps) }
     ensures budget { OnOk result (stream.new.budget ≡ stream.old.budget) }

@@ -3,13 +3,14 @@
 ghost use Rattle.std.specs.Prelude.{◌≡◌, ◌<◌, ◌≤◌, ℕ, IfOk, IfSome, List, Option, length, replicate, true};
 ghost use Rattle.abt_machine.specs.declared.events.Outcome.{Outcome};
 ghost use Rattle.abt_machine.specs.Stored.{CallsStored, Stored};
-ghost use Rattle.abt_order.specs.Stored.{stored_of};
+ghost use Rattle.abt_order.specs.Stored.{IsAnsweredOrder, stored_of};
 ghost use Rattle.abt_commons.specs.Held.{clock_at};
 ghost use Rattle.abt_commons.specs.Splits.{own_lock};
+ghost use Rattle.abt_drain.specs.Answers.{AllAnswered};
 ghost use Rattle.abt_drain.specs.Crews.{moment_in};
 ghost use Rattle.abt_drain.specs.Looks.{AreStreams, EndedWith};
 ghost use Rattle.abt_drain.specs.Rotations.{work_at};
-ghost use Rattle.abt_waves.specs.Ends.{LeavesWaves};
+ghost use Rattle.abt_waves.specs.Ends.{LeavesLogs};
 ghost use Rattle.abt_waves.specs.Leaving.{Lowers};
 ghost use Rattle.abt_waves.specs.Storing.{stored_by};
 ghost use Rattle.abt_waves.specs.Waves.{HasEnded, IsFleetOf};
@@ -63,6 +64,7 @@ impl<'w> Fleet<'w> {
         requires orders { 2 ≤ length (O.shapes orders.now) }
         ensures workload { IfOk result (λ fleet. fleet.workload ≡ w.now) }
         ensures keeps { IfOk result (λ fleet. fleet.keeps ≡ keeps) }
+        ensures answers { IfOk result (λ fleet. AllAnswered w.now (O.answered orders.now w.now) fleet.streams) }
         ensures fleet { IfOk result (λ fleet. (returns : ℕ → ℕ → ℕ → List ℕ → Option ℕ) → IsFleetOf L.lock L.clock w.now (stored_by (O.shapes orders.now) returns) steps fleet) }
     {
         w.known();
@@ -99,6 +101,7 @@ impl<'w> Fleet<'w> {
         ensures fleet { IfOk result (IsFleetOf L.lock L.clock self.entry.workload (stored_by (O.shapes orders.now) (P.returns work.now)) self.entry.steps) }
         ensures lowers { IfOk result (λ fleet. Lowers self.entry.workload self.entry.steps (moment_in self.entry.workload self.entry) (moment_in self.entry.workload fleet)) }
         ensures keeps { IfOk result (λ fleet. fleet.keeps ≡ self.entry.keeps) }
+        ensures answers { IfOk result (λ fleet. AllAnswered self.entry.workload (O.answered orders.now self.entry.workload) self.entry.streams → AllAnswered self.entry.workload (O.answered orders.now self.entry.workload) fleet.streams) }
     {
         let Fleet {
             w,
@@ -137,6 +140,7 @@ impl<'w> Fleet<'w> {
         ensures fleet { IfOk result (IsFleetOf own_lock clock_at self.entry.workload (stored_of orders.now (P.returns work.now)) self.entry.steps) }
         ensures raises_none { IfOk result (λ fleet. work_at self.entry.workload self.entry.steps (moment_in self.entry.workload fleet) ≤ work_at self.entry.workload self.entry.steps (moment_in self.entry.workload self.entry)) }
         ensures keeps { IfOk result (λ fleet. fleet.keeps ≡ self.entry.keeps) }
+        ensures answers { IfOk result (λ fleet. AllAnswered self.entry.workload (IsAnsweredOrder self.entry.workload orders.now) self.entry.streams → AllAnswered self.entry.workload (IsAnsweredOrder self.entry.workload orders.now) fleet.streams) }
     {
         let Fleet {
             w,
@@ -197,6 +201,7 @@ impl<'w> Fleet<'w> {
         ensures fleet { IfOk result (IsFleetOf own_lock clock_at self.entry.workload (stored_of orders.now (P.returns work.now)) self.entry.steps) }
         ensures raises_none { IfOk result (λ fleet. work_at self.entry.workload self.entry.steps (moment_in self.entry.workload fleet) ≤ work_at self.entry.workload self.entry.steps (moment_in self.entry.workload self.entry)) }
         ensures keeps { IfOk result (λ fleet. fleet.keeps ≡ self.entry.keeps) }
+        ensures answers { IfOk result (λ fleet. AllAnswered self.entry.workload (IsAnsweredOrder self.entry.workload orders.now) self.entry.streams → AllAnswered self.entry.workload (IsAnsweredOrder self.entry.workload orders.now) fleet.streams) }
     {
         match self.lone() {
             Some(s) => self.go(rt, alloc, orders, work, listing, s, Until::PutsForOthers),
@@ -220,6 +225,7 @@ impl<'w> Fleet<'w> {
         ensures fleet { IfOk result (IsFleetOf own_lock clock_at self.entry.workload (stored_of orders.now (P.returns work.now)) self.entry.steps) }
         ensures raises_none { IfOk result (λ fleet. work_at self.entry.workload self.entry.steps (moment_in self.entry.workload fleet) ≤ work_at self.entry.workload self.entry.steps (moment_in self.entry.workload self.entry)) }
         ensures keeps { IfOk result (λ fleet. fleet.keeps ≡ self.entry.keeps) }
+        ensures answers { IfOk result (λ fleet. AllAnswered self.entry.workload (IsAnsweredOrder self.entry.workload orders.now) self.entry.streams → AllAnswered self.entry.workload (IsAnsweredOrder self.entry.workload orders.now) fleet.streams) }
     {
         let mut fleet = self;
         let mut from = 0;
@@ -250,6 +256,7 @@ impl<'w> Fleet<'w> {
         ensures fleet { IfOk result (IsFleetOf own_lock clock_at self.entry.workload (stored_of orders.now (P.returns work.now)) self.entry.steps) }
         ensures raises_none { IfOk result (λ fleet. work_at self.entry.workload self.entry.steps (moment_in self.entry.workload fleet) ≤ work_at self.entry.workload self.entry.steps (moment_in self.entry.workload self.entry)) }
         ensures keeps { IfOk result (λ fleet. fleet.keeps ≡ self.entry.keeps) }
+        ensures answers { IfOk result (λ fleet. AllAnswered self.entry.workload (IsAnsweredOrder self.entry.workload orders.now) self.entry.streams → AllAnswered self.entry.workload (IsAnsweredOrder self.entry.workload orders.now) fleet.streams) }
     {
         let times = starts.times();
         if times == 0 {
@@ -279,6 +286,7 @@ impl<'w> Fleet<'w> {
         requires fleet { IsFleetOf L.lock L.clock self.workload (stored_by (O.shapes orders.now) (P.returns work.now)) self.steps self }
         ensures ended { IfOk result (λ ended. HasEnded L.lock L.clock self.entry.workload (stored_by (O.shapes orders.now) (P.returns work.now)) self.entry.steps ended.0 ended.1) }
         ensures keeps { IfOk result (λ ended. ended.0.keeps ≡ self.entry.keeps) }
+        ensures answers { IfOk result (λ ended. AllAnswered self.entry.workload (O.answered orders.now self.entry.workload) self.entry.streams → AllAnswered self.entry.workload (O.answered orders.now self.entry.workload) ended.0.streams) }
     {
         let live = vec![in alloc; true; self.w.streams() as usize]?;
         let starts = Starts::new();
@@ -306,6 +314,7 @@ impl<'w> Fleet<'w> {
         requires fleet { IsFleetOf own_lock clock_at self.workload (stored_of orders.now (P.returns work.now)) self.steps self }
         ensures ended { IfOk result (λ ended. HasEnded own_lock clock_at self.entry.workload (stored_of orders.now (P.returns work.now)) self.entry.steps ended.0 ended.1) }
         ensures keeps { IfOk result (λ ended. ended.0.keeps ≡ self.entry.keeps) }
+        ensures answers { IfOk result (λ ended. AllAnswered self.entry.workload (IsAnsweredOrder self.entry.workload orders.now) self.entry.streams → AllAnswered self.entry.workload (IsAnsweredOrder self.entry.workload orders.now) ended.0.streams) }
     {
         let live = vec![in alloc; true; self.w.streams() as usize]?;
         let listing = Listing::new(alloc, self.w)?;
@@ -339,7 +348,7 @@ impl<'w> Fleet<'w> {
         outcome: Outcome,
     ) -> Result<Run, Want>
         requires ended { (Z : Stored) × HasEnded L.lock L.clock self.workload Z self.steps self outcome }
-        ensures { IfOk result (λ run. (Z : Stored) → HasEnded L.lock L.clock self.entry.workload Z self.entry.steps self.entry outcome → LeavesWaves L.lock self.entry.workload Z self.entry.steps self.entry.keeps run) }
+        ensures { IfOk result (λ run. (Z : Stored) → HasEnded L.lock L.clock self.entry.workload Z self.entry.steps self.entry outcome → LeavesLogs L.lock self.entry.workload Z self.entry.steps self.entry.keeps self.entry.streams run) }
     {
         let Fleet {
             w,

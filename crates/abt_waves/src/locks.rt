@@ -14,6 +14,7 @@ ghost use Rattle.abt_commons.specs.Held.{ObjectsValue, clock_at};
 ghost use Rattle.abt_commons.specs.Placing.{ArePlaced};
 ghost use Rattle.abt_commons.specs.Splits.{IsPassOf, opening_of_split, own_lock, pass_stream};
 ghost use Rattle.abt_stream.specs.Heeding.{Heeds};
+ghost use Rattle.abt_stream.specs.Answers.{FitsAnswers, Follows};
 ghost use Rattle.abt_stream.specs.Streams.{FitsShapes, FitsStream};
 ghost use Rattle.abt_stream.specs.Turned.{IsPrepared, IsReady, Turned};
 ghost use Rattle.abt_waves.specs.Locks.{AreClosed, HasSeenNothing, LocksValue, Moves};
@@ -69,6 +70,7 @@ pub trait Locked {
         ensures keeps { stream.new.keeps ≡ stream.old.keeps }
         ensures fits { FitsStream w.now stream.new }
         ensures shapes { (Z : Stored) → FitsShapes w.now Z stream.old → FitsShapes w.now Z stream.new }
+        ensures follows { Follows w.now stream.old stream.new }
         ensures pass { is_of self.now pass.new }
         ensures number { (locks self.now).number pass.new ≡ (locks self.now).number pass.old };
 
@@ -110,6 +112,9 @@ pub trait Orders {
     // Their shapes.
     ghost shapes: { Self → List OrderShape };
 
+    // The order that they answer for a scheduler of a workload and a round.
+    ghost answered: { Self → Parts → ℕ → ℕ → List ℕ → Type 0 };
+
     /// Takes the memory that one turn of the stream needs. Err: out of memory.
     fn prepare(&self, stream: &mut Stream, w: &Workload) -> Result<(), Want>
         requires stored { OrdersStored w.now (shapes self.now) }
@@ -117,6 +122,7 @@ pub trait Orders {
         ensures ready { OnOk result (IsReady w.now stream.new) }
         ensures fits { FitsStream w.now stream.new }
         ensures shapes { (returns : ℕ → ℕ → ℕ → List ℕ → Option ℕ) → FitsShapes w.now (stored_by (shapes self.now) returns) stream.old → FitsShapes w.now (stored_by (shapes self.now) returns) stream.new }
+        ensures answers { FitsAnswers w.now (answered self.now w.now) stream.old → FitsAnswers w.now (answered self.now w.now) stream.new }
         ensures same { OnOk result (IsPrepared stream.old stream.new) }
         ensures err { OnErr result (stream.new ≡ record stream.old { rooms = stream.new.rooms }) };
 }
@@ -128,9 +134,11 @@ pub struct StoredOrders<'o> {
 }
 
 impl<'o> Orders for StoredOrders<'o> {
-    ghost use Rattle.abt_order.specs.Stored.{shapes_of};
+    ghost use Rattle.abt_order.specs.Stored.{IsAnsweredOrder, shapes_of};
 
     ghost shapes = { λ stored. shapes_of stored.orders.now };
+
+    ghost answered = { λ stored W. IsAnsweredOrder W stored.orders.now };
 
     fn prepare(&self, stream: &mut Stream, w: &Workload) -> Result<(), Want> {
         stream.prepare(w, self.orders)

@@ -2,6 +2,7 @@
 
 ghost use Rattle.std.specs.Prelude.{◌≡◌};
 ghost use Rattle.abt_machine.specs.Stored.{CallsStored, Stored};
+ghost use Rattle.abt_stream.specs.Answers.{Follows};
 ghost use Rattle.abt_stream.specs.Heeding.{Heeds};
 ghost use Rattle.abt_stream.specs.Streams.{FitsShapes, FitsStream};
 ghost use Rattle.abt_stream.specs.Turned.{IsReady, Turned};
@@ -99,6 +100,7 @@ pub fn noted_turn<'w, X: Drop, C: Commons<'w, Pass = X>, P: Work>(
     ensures budget { stream.new.budget ≡ stream.old.budget }
     ensures fits { FitsStream w.now stream.new }
     ensures shapes { (Z : Stored) → FitsShapes w.now Z stream.old → FitsShapes w.now Z stream.new }
+    ensures follows { Follows w.now stream.old stream.new }
     ensures pass { C.is_of commons.now pass.new }
     ensures number { C.number pass.new ≡ C.number pass.old }
 {

@@ -2,7 +2,7 @@
 
 ghost use Rattle.std.specs.Prelude.{◌≤◌, IfOk, length};
 ghost use Rattle.abt_machine.specs.Stored.{CallsStored};
-ghost use Rattle.abt_order.specs.Stored.{stored_of};
+ghost use Rattle.abt_order.specs.Stored.{IsAnsweredOrder, stored_of};
 ghost use Rattle.abt_drain.specs.Ends.{LeavesRun};
 ghost use Rattle.abt_waves.specs.Ends.{LeavesWaves};
 ghost use Rattle.abt_waves.specs.Storing.{stored_by};
@@ -40,7 +40,7 @@ pub fn run_streams<'w, R: Threads + Wait + Sync, P: Work + Sync>(
 ) -> Result<Run, Want>
     requires orders { 2 ≤ length orders.now }
     requires calls { CallsStored w.now (P.count work.now) }
-    ensures run { IfOk result (LeavesRun w.now (stored_of orders.now (P.returns work.now)) steps keeps) }
+    ensures run { IfOk result (LeavesRun w.now (stored_of orders.now (P.returns work.now)) (IsAnsweredOrder w.now orders.now) steps keeps) }
 {
     if w.streams() == 1 {
         return drain_with(alloc, w, orders, work, steps, keeps);
@@ -75,7 +75,7 @@ pub fn run_over<
 ) -> Result<Run, Want>
     requires orders { 2 ≤ length (O.shapes orders.now) }
     requires calls { CallsStored w.now (P.count work.now) }
-    ensures run { IfOk result (LeavesWaves L.lock w.now (stored_by (O.shapes orders.now) (P.returns work.now)) steps keeps) }
+    ensures run { IfOk result (LeavesWaves L.lock w.now (stored_by (O.shapes orders.now) (P.returns work.now)) (O.answered orders.now w.now) steps keeps) }
 {
     let fleet = Fleet::new::<R, O, L>(alloc, w, orders, steps, keeps)?;
     let (fleet, outcome) = fleet.run::<R, P, O, X, L>(rt, alloc, orders, work)?;

@@ -4,6 +4,7 @@ ghost use Rattle.std.specs.Prelude.{ℕ, ◌≡◌, ◌<◌, IfOk, length, slice
 ghost use Rattle.std.specs.List.{All};
 ghost use Rattle.abt_machine.specs.Rounds.{OrdersStored};
 ghost use Rattle.abt_machine.specs.Stored.{CallsStored};
+ghost use Rattle.abt_stream.specs.Answers.{FitsAnswers};
 ghost use Rattle.abt_waves.specs.Jobs.{HasReturned, JobValue, MayGo, jobs_of};
 ghost use Rattle.abt_waves.specs.Storing.{stored_by};
 ghost use Rattle.abt_waves.specs.declared.voyages.Returned.{Returned};
@@ -72,13 +73,15 @@ pub(crate) fn run_jobs<
     requires may { All (MayGo C.is_of C.locks w.now (stored_by (O.shapes orders.now) (P.returns work.now))) jobs.items }
     ensures many { IfOk result (λ returned. length returned.items ≡ length jobs.entry.items) }
     ensures each { IfOk result (λ returned. (i : ℕ) (job : JobValue C X) (back : Returned X) → i < length jobs.entry.items → HasReturned C.is_of C.locks C.lock w.now (stored_by (O.shapes orders.now) (P.returns work.now)) (slice_index_or jobs.entry.items i job) (slice_index_or returned.items i back)) }
+    ensures answers { IfOk result (λ returned. (i : ℕ) (job : JobValue C X) (back : Returned X) → i < length jobs.entry.items → FitsAnswers w.now (O.answered orders.now w.now) (slice_index_or jobs.entry.items i job).stream → FitsAnswers w.now (O.answered orders.now w.now) (slice_index_or returned.items i back).stream) }
 {
     thread::map_vec(
         rt,
         jobs,
         &|job|
             requires { OrdersStored w.now (O.shapes orders.now) × CallsStored w.now (P.count work.now) × MayGo C.is_of C.locks w.now (stored_by (O.shapes orders.now) (P.returns work.now)) job }
-            ensures { HasReturned C.is_of C.locks C.lock w.entry.now (stored_by (O.shapes orders.entry.now) (P.returns work.entry.now)) job.entry result }
+            ensures returned { HasReturned C.is_of C.locks C.lock w.entry.now (stored_by (O.shapes orders.entry.now) (P.returns work.entry.now)) job.entry result }
+            ensures answers { FitsAnswers w.entry.now (O.answered orders.entry.now w.entry.now) job.entry.stream → FitsAnswers w.entry.now (O.answered orders.entry.now w.entry.now) result.stream }
         { voyage(rt, w, orders, work, watch, job) },
     )
 }

@@ -3,6 +3,7 @@
 ghost use Rattle.std.specs.Prelude.{◌≡◌, IfOk, IfSome, true};
 ghost use Rattle.abt_machine.specs.Rounds.{OrdersStored};
 ghost use Rattle.abt_machine.specs.Stored.{CallsStored};
+ghost use Rattle.abt_stream.specs.Answers.{FitsAnswers};
 ghost use Rattle.abt_stream.specs.Streams.{StreamValue};
 ghost use Rattle.abt_waves.specs.Voyages.{HasGone, HasPass};
 ghost use Rattle.abt_waves.specs.Stops.{StopsBy, TurnEnds};
@@ -67,7 +68,8 @@ pub(crate) fn voyage<'a, R: Threads + Wait, P: Work, O: Orders, C: Locked>(
     requires stored { OrdersStored w.now (O.shapes orders.now) }
     requires calls { CallsStored w.now (P.count work.now) }
     requires may { MayGo C.is_of C.locks w.now (stored_by (O.shapes orders.now) (P.returns work.now)) job }
-    ensures { HasReturned C.is_of C.locks C.lock w.now (stored_by (O.shapes orders.now) (P.returns work.now)) job.entry result }
+    ensures returned { HasReturned C.is_of C.locks C.lock w.now (stored_by (O.shapes orders.now) (P.returns work.now)) job.entry result }
+    ensures answers { FitsAnswers w.now (O.answered orders.now w.now) job.entry.stream → FitsAnswers w.now (O.answered orders.now w.now) result.stream }
 {
     let Job {
         locks,
@@ -114,6 +116,7 @@ fn turns<R: Threads + Wait, P: Work, O: Orders, C: Locked>(
     requires locks { (C.locks locks.now).objects.workload ≡ w.now }
     requires has { HasPass (C.is_of locks.now) (C.locks locks.now) w.now (stored_by (O.shapes orders.now) (P.returns work.now)) stream.old pass.old }
     ensures has { HasPass (C.is_of locks.now) (C.locks locks.now) w.now (stored_by (O.shapes orders.now) (P.returns work.now)) stream.new pass.new }
+    ensures answers { FitsAnswers w.now (O.answered orders.now w.now) stream.old → FitsAnswers w.now (O.answered orders.now w.now) stream.new }
     ensures gone { (first : StreamValue) → HasGone (C.locks locks.now) C.lock w.now (stored_by (O.shapes orders.now) (P.returns work.now)) first stream.old pass.old → HasGone (C.locks locks.now) C.lock w.now (stored_by (O.shapes orders.now) (P.returns work.now)) first stream.new pass.new }
     ensures stops { (first : StreamValue) → HasGone (C.locks locks.now) C.lock w.now (stored_by (O.shapes orders.now) (P.returns work.now)) first stream.old pass.old → StopsBy (C.locks locks.now) C.lock w.now true first.log stream.new pass.new result }
 {
@@ -135,6 +138,7 @@ fn turns<R: Threads + Wait, P: Work, O: Orders, C: Locked>(
 }
 
 // One turn, and why the stream stops after it, if it does.
+#[inline(always)]
 fn take_turn<R: Threads + Wait, P: Work, O: Orders, C: Locked>(
     rt: &R,
     w: &Workload,
@@ -152,6 +156,7 @@ fn take_turn<R: Threads + Wait, P: Work, O: Orders, C: Locked>(
     requires locks { (C.locks locks.now).objects.workload ≡ w.now }
     requires has { HasPass (C.is_of locks.now) (C.locks locks.now) w.now (stored_by (O.shapes orders.now) (P.returns work.now)) stream.old pass.old }
     ensures has { HasPass (C.is_of locks.now) (C.locks locks.now) w.now (stored_by (O.shapes orders.now) (P.returns work.now)) stream.new pass.new }
+    ensures answers { FitsAnswers w.now (O.answered orders.now w.now) stream.old → FitsAnswers w.now (O.answered orders.now w.now) stream.new }
     ensures gone { (first : StreamValue) → HasGone (C.locks locks.now) C.lock w.now (stored_by (O.shapes orders.now) (P.returns work.now)) first stream.old pass.old → HasGone (C.locks locks.now) C.lock w.now (stored_by (O.shapes orders.now) (P.returns work.now)) first stream.new pass.new }
     ensures stops { (first : StreamValue) → HasGone (C.locks locks.now) C.lock w.now (stored_by (O.shapes orders.now) (P.returns work.now)) first stream.old pass.old → IfSome result (StopsBy (C.locks locks.now) C.lock w.now true first.log stream.new pass.new) }
 {
@@ -175,6 +180,7 @@ fn take_turn<R: Threads + Wait, P: Work, O: Orders, C: Locked>(
 }
 
 // Whether a stream goes on after an empty round. Before it waits it gives back what it keeps.
+#[inline(never)]
 fn looks_on<R: Threads + Wait, C: Locked>(
     rt: &R,
     watch: &Watch,
@@ -200,6 +206,7 @@ fn stop_unless(goes_on: bool, stop: Stop) -> Option<Stop>
 }
 
 // Takes the memory that one turn of a stream needs, and makes the turn.
+#[inline(always)]
 fn advance<P: Work, O: Orders, C: Locked>(
     w: &Workload,
     orders: &O,
@@ -214,6 +221,7 @@ fn advance<P: Work, O: Orders, C: Locked>(
     requires locks { (C.locks locks.now).objects.workload ≡ w.now }
     requires has { HasPass (C.is_of locks.now) (C.locks locks.now) w.now (stored_by (O.shapes orders.now) (P.returns work.now)) stream.old pass.old }
     ensures has { HasPass (C.is_of locks.now) (C.locks locks.now) w.now (stored_by (O.shapes orders.now) (P.returns work.now)) stream.new pass.new }
+    ensures answers { FitsAnswers w.now (O.answered orders.now w.now) stream.old → FitsAnswers w.now (O.answered orders.now w.now) stream.new }
     ensures gone { (first : StreamValue) → HasGone (C.locks locks.now) C.lock w.now (stored_by (O.shapes orders.now) (P.returns work.now)) first stream.old pass.old → HasGone (C.locks locks.now) C.lock w.now (stored_by (O.shapes orders.now) (P.returns work.now)) first stream.new pass.new }
     ensures ends { IfOk result (TurnEnds (C.locks locks.now) C.lock w.now stream.old.log stream.new pass.new) }
 {

@@ -43,6 +43,15 @@ const SHORT_RUN: u32 = 256;
 // After how many such sleeps in a row threads do not pay for a stream.
 const SHORT_RUNS: u32 = 8;
 
+// After how many sleeps in a row of any streams, each of which leaves one at work that was called just before, threads pay for none.
+const BATONS: u64 = 64;
+
+// For how many waves no stream is waited for to start, after the first one that waited in vain; for twice as many each further time, up to
+// the most. A thread that starts late on a busy machine is not one that lacks.
+const FIRST_LACKING: u32 = 1 << 6;
+
+const MOST_LACKING: u32 = 1 << 20;
+
 // How often streams make turns by turns after the first wave whose streams only handed work to each other; twice as often after each
 // further one, up to the most.
 const FIRST_TIMES: u32 = 1 << 12;
@@ -53,7 +62,10 @@ const MOST_TIMES: u32 = 1 << 20;
 /// streams only handed work to each other, so that they are to share one for some time.
 #[derive(Drop)]
 pub struct Starts {
-    lacking: Cell<bool>,
+    // For how many waves no stream is waited for to start.
+    lacking: Cell<u32>,
+    // For how many the last time.
+    lacked: Cell<u32>,
     // Whether streams may share a thread that could have one each.
     shares: Cell<bool>,
     // How often streams make turns by turns before the next wave.
@@ -64,7 +76,8 @@ impl Starts {
     /// At the start of a run no thread is known to lack, and no streams share one.
     pub fn new() -> Starts {
         Starts {
-            lacking: Cell::new(false),
+            lacking: Cell::new(0),
+            lacked: Cell::new(0),
             shares: Cell::new(false),
             times: Cell::new(0),
         }
@@ -82,12 +95,32 @@ impl Starts {
 
     /// After a wave: what it has found.
     pub(crate) fn note(&self, watch: &Watch) {
-        self.lacking.set(watch.lacking.load(Ordering::SeqCst));
+        self.note_lack(watch.lacking.load(Ordering::SeqCst));
         if watch.is_crowded() {
             let twice = self.times.get().saturating_mul(2);
             self.times.set(twice.clamp(FIRST_TIMES, MOST_TIMES));
         } else {
             self.times.set(0);
+        }
+    }
+}
+
+impl Starts {
+    // Whether streams may share a thread for want of others, so that none is waited for to start.
+    fn are_lacking(&self) -> bool {
+        self.lacking.get() > 0
+    }
+
+    // After a wave, in which threads lacked or not. One that did not wait says nothing new.
+    fn note_lack(&self, lack: bool) {
+        if self.are_lacking() {
+            self.lacking.set(self.lacking.get().saturating_sub(1));
+        } else if lack {
+            let twice = self.lacked.get().saturating_mul(2);
+            self.lacked.set(twice.clamp(FIRST_LACKING, MOST_LACKING));
+            self.lacking.set(self.lacked.get());
+        } else {
+            self.lacked.set(0);
         }
     }
 }
@@ -113,6 +146,10 @@ pub(crate) struct Watch {
     crowding: u64,
     // Those that have found that.
     crowded: AtomicU64,
+    // How many sleeps in a row left one stream at work that was called just before.
+    batons: AtomicU64,
+    // Whether threads were found to pay for none.
+    shared: AtomicBool,
 }
 
 /// What a stream is at.
@@ -136,6 +173,8 @@ pub(crate) struct Shift {
     heeding: u32,
     // How many turns it has made since it last slept.
     run: u32,
+    // How many of these it had made when it last called another one, if it has.
+    called_at: Option<u32>,
     // How many times in a row it slept after few turns.
     short_runs: u32,
 }
@@ -149,7 +188,7 @@ impl Watch {
         starts: &Starts,
     ) -> Result<Watch, Want> {
         let streams = live_count(live);
-        let lacking = starts.lacking.get();
+        let lacking = starts.are_lacking();
         let awaited = if lacking { 0 } else { streams.min(64) as u8 };
         Ok(Watch {
             alloc,
@@ -168,6 +207,8 @@ impl Watch {
                 0
             },
             crowded: AtomicU64::new(0),
+            batons: AtomicU64::new(0),
+            shared: AtomicBool::new(false),
         })
     }
 
@@ -189,16 +230,18 @@ impl Watch {
             further_rounds: 0,
             heeding: HEEDING,
             run: 0,
+            called_at: None,
             short_runs: 0,
         }
     }
 
     /// A stream has put a unit into this pool: those that wait and list it are called.
     #[inline(always)]
-    pub(crate) fn note_put(&self, shift: &Shift, p: PoolNo) {
+    pub(crate) fn note_put(&self, shift: &mut Shift, p: PoolNo) {
         let others = self.listing.of(p) & !shift.bit;
         if others & self.marked.load(Ordering::SeqCst) != 0 {
             self.call(others);
+            shift.called_at = Some(shift.run);
         }
     }
 
@@ -246,29 +289,50 @@ impl Watch {
         self.call(u64::MAX);
     }
 
-    // Whether threads pay for none of the streams: each slept again and again after few turns.
+    // Whether threads were found to pay for none of the streams.
     fn is_crowded(&self) -> bool {
-        self.crowding != 0 && self.crowded.load(Ordering::SeqCst) == self.crowding
+        self.shared.load(Ordering::SeqCst)
     }
 
-    // The stream is about to sleep. If it does so after few turns too often in a row, threads do not pay for it; if they pay for none, all
-    // are to leave.
-    fn note_sleep(&self, shift: &mut Shift) {
-        shift.short_runs = if shift.run < SHORT_RUN {
-            shift.short_runs.saturating_add(1)
-        } else {
-            0
-        };
+    // The stream is about to sleep, and so many are at work. If threads pay for none, all are to leave: each slept again and again after few
+    // turns, or again and again one slept when it had called the only one at work.
+    fn note_sleep(&self, shift: &mut Shift, active: u8) {
+        self.note_run(shift);
+        self.note_baton(shift, active);
         shift.run = 0;
+        shift.called_at = None;
+        let crowded = self.crowded.load(Ordering::SeqCst) == self.crowding;
+        let handed = self.batons.load(Ordering::SeqCst) >= BATONS;
+        if self.crowding != 0 && (crowded || handed) {
+            self.shared.store(true, Ordering::SeqCst);
+            self.call(u64::MAX);
+        }
+    }
+
+    // If the stream sleeps after few turns too often in a row, threads do not pay for it.
+    fn note_run(&self, shift: &mut Shift) {
+        if shift.run >= SHORT_RUN {
+            shift.short_runs = 0;
+            self.crowded.fetch_and(!shift.bit, Ordering::SeqCst);
+            return;
+        }
+        shift.short_runs = shift.short_runs.saturating_add(1);
         if shift.short_runs == SHORT_RUNS {
             self.crowded
                 .fetch_or(shift.bit & self.crowding, Ordering::SeqCst);
-            if self.is_crowded() {
-                self.call(u64::MAX);
-            }
         }
-        if shift.short_runs == 0 {
-            self.crowded.fetch_and(!shift.bit, Ordering::SeqCst);
+    }
+
+    // Counts the sleeps in a row by which one stream alone is at work, called by the one that sleeps not long before.
+    fn note_baton(&self, shift: &Shift, active: u8) {
+        let since = match shift.called_at {
+            Some(at) => shift.run.saturating_sub(at),
+            None => SHORT_RUN,
+        };
+        if active <= 1 && since < SHORT_RUN {
+            self.batons.fetch_add(1, Ordering::SeqCst);
+        } else {
+            self.batons.store(0, Ordering::SeqCst);
         }
     }
 
@@ -373,7 +437,7 @@ impl Watch {
     fn rest<R: Threads + Wait>(&self, rt: &R, shift: &mut Shift) -> bool {
         match self.count(Change::Rested) {
             Some(tally) if tally.over => self.end(),
-            Some(_) => self.await_call(rt, shift),
+            Some(tally) => self.await_call(rt, shift, tally.active),
             None => {}
         }
         self.count(Change::Woken);
@@ -383,11 +447,11 @@ impl Watch {
     }
 
     // Waits until the stream is called, or the wave is over.
-    fn await_call<R: Threads + Wait>(&self, rt: &R, shift: &mut Shift) {
+    fn await_call<R: Threads + Wait>(&self, rt: &R, shift: &mut Shift, active: u8) {
         shift.waited = true;
         if !self.looks(shift) {
             shift.look /= 2;
-            self.note_sleep(shift);
+            self.note_sleep(shift, active);
             self.sleep(rt, shift);
         }
     }

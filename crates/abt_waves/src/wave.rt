@@ -3,7 +3,8 @@
 ghost use Rattle.std.specs.Prelude.{ℕ, ◌≡◌, ◌≢◌, ◌↔◌, Bool, IfOk, IsTrue, OnOk, Some, false, length, slice_get, true};
 ghost use Rattle.std.specs.List.{All};
 ghost use Rattle.abt_machine.specs.Stored.{CallsStored};
-ghost use Rattle.abt_order.specs.Stored.{stored_of};
+ghost use Rattle.abt_order.specs.Stored.{IsAnsweredOrder, stored_of};
+ghost use Rattle.abt_drain.specs.Answers.{AllAnswered};
 ghost use Rattle.abt_drain.specs.Crews.{AllKeep, moment_of};
 ghost use Rattle.abt_waves.specs.declared.voyages.Stop.TheVariants as why;
 ghost use Rattle.abt_waves.specs.Fleets.{IsFleet, IsFleetOver, MakesWave, MakesWaveOver, moment_over};
@@ -47,6 +48,7 @@ pub fn run_wave<'w, R: Threads + Wait + Sync, P: Work + Sync>(
     ensures wave { IfOk result (λ left. MakesWave w.now (stored_of orders.now (P.returns work.now)) live.now (moment_of w.now streams.items objects.entry) (moment_of w.now left.1.items left.0)) }
     ensures still { IfOk result (λ left. (s : ℕ) → slice_get live.now s ≡ Some false → slice_get left.1.items s ≡ slice_get streams.items s) }
     ensures keeps { IfOk result (λ left. (k : Bool) → AllKeep k streams.items → AllKeep k left.1.items) }
+    ensures answers { IfOk result (λ left. AllAnswered w.now (IsAnsweredOrder w.now orders.now) streams.items → AllAnswered w.now (IsAnsweredOrder w.now orders.now) left.1.items) }
 {
     sail::<R, P, StoredOrders<'_>, SplitPass<'w>, Split<'w, R>>(
         rt,
@@ -88,6 +90,7 @@ pub(crate) fn sail<
     ensures wave { IfOk result (λ left. MakesWaveOver L.lock L.clock w.now (stored_by (O.shapes orders.now) (P.returns work.now)) live.now (moment_over L.lock L.clock w.now streams.items objects.entry) (moment_over L.lock L.clock w.now left.1.items left.0)) }
     ensures still { IfOk result (λ left. (s : ℕ) → slice_get live.now s ≡ Some false → slice_get left.1.items s ≡ slice_get streams.items s) }
     ensures keeps { IfOk result (λ left. (k : Bool) → AllKeep k streams.items → AllKeep k left.1.items) }
+    ensures answers { IfOk result (λ left. AllAnswered w.now (O.answered orders.now w.now) streams.items → AllAnswered w.now (O.answered orders.now w.now) left.1.items) }
 {
     let count = w.streams();
     let Ok((locks, passes)) = L::make(rt, alloc, objects, count) else {

@@ -1,9 +1,10 @@
 -- A turn of one stream.
 use Rattle.std.proofs.Common.{◌^◌, refl, subst}
-use Rattle.abt_order.specs.Stored.{stored_of}
+use Rattle.abt_order.specs.Stored.{IsAnsweredOrder, stored_of}
 use Rattle.abt_commons.specs.Plains.{PlainMoves}
 use Rattle.abt_stream.specs.Heeding.{Heeds}
 use Rattle.abt_stream.specs.Turned.{Turned}
+use Rattle.abt_stream.proofs.Rounds.{follows-answers}
 use Rattle.abt_drain.proofs.Advancing.{turned-by}
 use Rattle.abt_drain.proofs.Prepared.{few-after, prepared-turns}
 use Rattle.abt_waves.proofs.alone.advance.Goals as goal
@@ -28,3 +29,7 @@ pub returns-clause-shapes : goal.returns-clause-shapes
 returns-clause-shapes g c =
     let Z = stored_of c.args.orders.now (g.P.Work.returns c.args.work.now) in
     c.noted_turn-turn.ensures.shapes Z (c.prepare.ensures.shapes (g.P.Work.returns c.args.work.now) c.requires.shapes)
+
+pub returns-clause-answers : goal.returns-clause-answers
+returns-clause-answers g c = λ fits.
+    follows-answers c.args.w.now (IsAnsweredOrder c.args.w.now c.args.orders.now) c.prepare.new.self c.noted_turn-turn.new.stream c.noted_turn-turn.ensures.follows (c.prepare.ensures.answers fits)

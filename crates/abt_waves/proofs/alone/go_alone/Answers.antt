@@ -1,7 +1,8 @@
 -- All its turns.
 use Rattle.std.proofs.Common.{◌∙◌, sym, subst}
 use Rattle.std.proofs.lemmas.Result.{IfOk-weaker}
-use Rattle.abt_order.specs.Stored.{stored_of}
+use Rattle.abt_order.specs.Stored.{IsAnsweredOrder, stored_of}
+use Rattle.abt_stream.specs.Answers.{FitsAnswers}
 use Rattle.abt_waves.specs.Staying.{BeginsAnew, StaysCrew}
 use Rattle.abt_waves.proofs.alone.go_alone.Goals as goal
 
@@ -18,3 +19,8 @@ pub returns-clause-fresh : goal.returns-clause-fresh
 returns-clause-fresh g c =
     let Z = stored_of c.args.orders.now (g.P.Work.returns c.args.work.now) in
     IfOk-weaker c.closed.result _ _ (λ left same. subst (λ start. BeginsAnew c.args.w.now Z c.args.stream.now start c.turns.new.stream) c.make-plain.ensures.pass c.in_ok-turns.ensures.fresh) c.closed.ensures
+
+pub returns-clause-answers : goal.returns-clause-answers
+returns-clause-answers g c =
+    IfOk-weaker c.closed.result _ (λ left. FitsAnswers c.args.w.now (IsAnsweredOrder c.args.w.now c.args.orders.now) c.args.stream.now → FitsAnswers c.args.w.now (IsAnsweredOrder c.args.w.now c.args.orders.now) c.turns.new.stream)
+    (λ left same. c.in_ok-turns.ensures.answers) c.closed.ensures

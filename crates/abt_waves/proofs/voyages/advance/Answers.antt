@@ -6,6 +6,7 @@ use Rattle.abt_machine.specs.declared.numbers.StreamNo.{StreamNo}
 use Rattle.abt_stream.specs.Heeding.{Heeds}
 use Rattle.abt_stream.specs.Streams.{FitsShapes, StreamValue}
 use Rattle.abt_stream.specs.Turned.{Turned}
+use Rattle.abt_stream.proofs.Rounds.{follows-answers}
 use Rattle.abt_waves.specs.Locks.{Moves}
 use Rattle.abt_waves.specs.Stops.{TurnEnds}
 use Rattle.abt_waves.specs.Voyages.{HasGone}
@@ -30,6 +31,7 @@ returns g c =
         own = c.turn-turn.ensures.pass;
         number = c.turn-turn.ensures.number ∙ (c.requires.has.number ∙ ap (λ (k : StreamNo). k.0) (sym same ∙ sym c.turn-turn.ensures.stream));
       };
+      answers = λ fits. follows-answers c.args.w.now (g.O.Orders.answered c.args.orders.now c.args.w.now) c.prepare.new.stream c.turn-turn.new.stream c.turn-turn.ensures.follows (c.in_ok-prepare.ensures.answers fits);
       gone = λ first gone. subst (λ V. HasGone (g.C.Locked.locks c.args.locks.now) g.C.Locked.lock V Z first c.turn-turn.new.stream c.turn-turn.new.pass) c.requires.locks
           (turned-gone (g.C.Locked.locks c.args.locks.now) g.C.Locked.lock Z first c.prepare.new.stream c.args.pass.now c.turn-turn.new.stream c.turn-turn.new.pass (c.requires.has.number ∙ ap (λ (k : StreamNo). k.0) (sym same))
           (prepared-gone (g.C.Locked.locks c.args.locks.now) g.C.Locked.lock (g.C.Locked.locks c.args.locks.now).objects.workload Z first c.args.stream.now c.prepare.new.stream c.args.pass.now c.in_ok-prepare.ensures.same

@@ -21,5 +21,6 @@ turns-preserved g c = record {
   next = tt;
   finite = tt;
   has = c.take_turn.ensures.has;
+  answers = λ fits. c.take_turn.ensures.answers (c.turns.invariant.answers fits);
   gone = λ first gone. c.take_turn.ensures.gone first (c.turns.invariant.gone first gone);
 }

@@ -1,6 +1,6 @@
 -- A wave over any locks.
 use Rattle.std.proofs.Common.{refl, ◌∙◌}
-use Rattle.abt_waves.proofs.Waving.{all-back, all-left, all-may-go, keep-on, many-flags, many-passes, next-fleet, others-stay, valid-own, wave-made}
+use Rattle.abt_waves.proofs.Waving.{answers-on, all-back, all-left, all-may-go, keep-on, many-flags, many-passes, next-fleet, others-stay, valid-own, wave-made}
 use Rattle.abt_waves.specs.Storing.{stored_by}
 use Rattle.abt_waves.proofs.wave.sail.Goals as goal
 
@@ -48,3 +48,9 @@ pub returns-clause-keeps : goal.returns-clause-keeps
 returns-clause-keeps g c =
     let Z = stored_by (g.O.Orders.shapes c.args.orders.now) (g.P.Work.returns c.args.work.now) in
     keep-on g.L.Locked.is_of g.L.Locked.locks g.L.Locked.lock g.L.Locked.clock (c.in-Ok.ensures.tells c.args.w.now) c.args.w.now Z c.requires.fleet.0 c.args.objects c.args.streams.items c.requires.fleet.1 c.in-Ok.locks c.in-Ok.ensures.objects c.in-Ok.ensures.clocks c.streams-count.result c.streams-count.ensures.count c.in-Ok.passes.items c.in-Ok.ensures.passes c.args.live.now c.requires.flags c.in_ok-jobs.jobs.items c.in_ok-jobs.ensures c.in_ok-returned.returned.items c.in_ok-returned.ensures.many c.in_ok-returned.ensures.each c.in-Ok.ensures.streams c.in_ok-streams.passes.items c.in_ok-streams.ensures.passes_are c.open-objects.result c.open-objects.ensures c.in_ok-streams.streams.items c.in_ok-streams.ensures.streams_are
+
+pub returns-clause-answers : goal.returns-clause-answers
+returns-clause-answers g c =
+    let Z = stored_by (g.O.Orders.shapes c.args.orders.now) (g.P.Work.returns c.args.work.now) in
+    answers-on g.L.Locked.is_of g.L.Locked.locks g.L.Locked.lock g.L.Locked.clock (c.in-Ok.ensures.tells c.args.w.now) c.args.w.now Z c.requires.fleet.0 c.args.objects c.args.streams.items c.requires.fleet.1 c.in-Ok.locks c.in-Ok.ensures.objects c.in-Ok.ensures.clocks c.streams-count.result c.streams-count.ensures.count c.in-Ok.passes.items c.in-Ok.ensures.passes c.args.live.now c.requires.flags c.in_ok-jobs.jobs.items c.in_ok-jobs.ensures c.in_ok-returned.returned.items c.in_ok-returned.ensures.many c.in_ok-returned.ensures.each c.in-Ok.ensures.streams c.in_ok-streams.passes.items c.in_ok-streams.ensures.passes_are c.open-objects.result c.open-objects.ensures c.in_ok-streams.streams.items c.in_ok-streams.ensures.streams_are
+    (g.O.Orders.answered c.args.orders.now c.args.w.now) c.in_ok-returned.ensures.answers

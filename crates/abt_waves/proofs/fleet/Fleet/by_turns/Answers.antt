@@ -1,7 +1,8 @@
 -- The turns of one stream after another.
 use Rattle.std.proofs.Common.{ℕ, ◌<◌, ◌≤◌, sym, ◌∙◌, arith}
 use Rattle.abt_machine.specs.Stored.{CallsStored}
-use Rattle.abt_order.specs.Stored.{stored_of}
+use Rattle.abt_order.specs.Stored.{IsAnsweredOrder, stored_of}
+use Rattle.abt_drain.specs.Answers.{AllAnswered}
 use Rattle.abt_commons.specs.Held.{clock_at}
 use Rattle.abt_commons.specs.Splits.{own_lock}
 use Rattle.abt_drain.specs.Crews.{moment_in}
@@ -39,4 +40,6 @@ times-preserved g c =
           (own-fleet own_lock clock_at (λ V k. work_at V k (moment_in V c.in_ok-fleet.fleet) ≤ work_at V k (moment_in V c.times.fleet)) own.workload Z own.steps c.times.fleet is c.in_ok-fleet.ensures.raises_none)
           c.times.invariant.raises_none;
       keeps = c.in_ok-fleet.ensures.keeps ∙ c.times.invariant.keeps;
+      answers = λ all. own-fleet own_lock clock_at (λ V k. AllAnswered V (IsAnsweredOrder V c.args.orders.now) c.times.fleet.streams → AllAnswered V (IsAnsweredOrder V c.args.orders.now) c.in_ok-fleet.fleet.streams)
+          own.workload Z own.steps c.times.fleet is c.in_ok-fleet.ensures.answers (c.times.invariant.answers all);
     }

@@ -4,7 +4,7 @@ use Rattle.abt_merge.specs.Logs.{AreLogs}
 use Rattle.abt_drain.specs.Crews.{AllKeep, CrewValue}
 use Rattle.abt_drain.specs.Ends.{logs_in}
 use Rattle.abt_drain.proofs.Closing.{all-fit, left-many}
-use Rattle.abt_waves.specs.Ends.{LeavesWaves}
+use Rattle.abt_waves.specs.Ends.{LeavesLogs}
 use Rattle.abt_waves.specs.Waves.{HasEnded, IsFleetOf}
 use Rattle.abt_waves.proofs.Fleets.{fleet-leaves, fleet-logs, fleet_of}
 use Rattle.abt_waves.proofs.fleet.Fleet.end.Goals as goal
@@ -32,6 +32,6 @@ returns g c = λ Z ended.
     let own = subst (λ (v : CrewValue). HasEnded g.L.Locked.lock g.L.Locked.clock v.workload Z v.steps v c.args.outcome) (sym c.self.view_is) ended in
     let rests = c.in_ok-journal.field-0 in
     let rows = c.in_ok-picture.picture in
-    subst (λ (v : CrewValue). LeavesWaves g.L.Locked.lock v.workload Z v.steps v.keeps (record { journal = rests.journal; steps = rests.steps; picture = rows; outcome = c.args.outcome })) c.self.view_is
+    subst (λ (v : CrewValue). LeavesLogs g.L.Locked.lock v.workload Z v.steps v.keeps v.streams (record { journal = rests.journal; steps = rests.steps; picture = rows; outcome = c.args.outcome })) c.self.view_is
     (fleet-leaves g.L.Locked.lock g.L.Locked.clock c.self.inside.w.now Z c.self.inside.steps (fleet_of c.self.inside.w.now c.self.inside.steps c.self.inside.keeps c.self.inside.objects c.self.inside.streams.items) c.args.outcome own
     rests c.in_ok-journal.ensures rows c.in_ok-picture.ensures.units c.in_ok-picture.ensures.words)

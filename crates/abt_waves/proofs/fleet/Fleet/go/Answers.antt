@@ -1,11 +1,14 @@
 -- The turns of one stream of a fleet.
 use Rattle.std.proofs.Common.{ℕ, ◌<◌, ◌≤◌, length, sym, ap, subst, arith}
 use Rattle.abt_machine.specs.Stored.{CallsStored}
-use Rattle.abt_order.specs.Stored.{stored_of}
+use Rattle.abt_order.specs.Stored.{IsAnsweredOrder, stored_of}
+use Rattle.abt_drain.specs.Answers.{AllAnswered}
 use Rattle.abt_commons.specs.Held.{clock_at}
 use Rattle.abt_commons.specs.Splits.{own_lock}
 use Rattle.abt_drain.specs.Crews.{CrewValue, IsCrew, moment_in}
 use Rattle.abt_drain.specs.Rotations.{work_at}
+use Rattle.abt_drain.proofs.Answering.{set-answers}
+use Rattle.abt_drain.proofs.Crewed.{crew-at}
 use Rattle.abt_waves.specs.Leaving.{BeginsRounds}
 use Rattle.abt_waves.specs.Staying.{with_stream}
 use Rattle.abt_waves.specs.Waves.{IsFleetOf}
@@ -44,4 +47,6 @@ returns g c =
       fleet = subst (λ (v : CrewValue). IsFleetOf own_lock clock_at v.workload Z v.steps next) c.self.view_is (crew-fleet own.workload Z own.steps next stays.0 fresh);
       raises_none = subst (λ (v : CrewValue). work_at v.workload v.steps (moment_in v.workload next) ≤ work_at v.workload v.steps (moment_in v.workload v)) c.self.view_is stays.1;
       keeps = ap (λ (v : CrewValue). v.keeps) c.self.view_is;
+      answers = subst (λ (v : CrewValue). AllAnswered v.workload (IsAnsweredOrder v.workload c.args.orders.now) v.streams → AllAnswered v.workload (IsAnsweredOrder v.workload c.args.orders.now) next.streams) c.self.view_is
+          (set-answers own.workload (IsAnsweredOrder own.workload c.args.orders.now) own.streams c.args.s c.index_mut.result.now c.go_alone.new.stream (crew-at own.streams c.args.s c.index_mut.result.now inside c.index_mut.ensures.value) c.in_ok-objects.ensures.answers);
     }

@@ -3,6 +3,7 @@ use denote.Param.Send.{sendable}
 use Rattle.std.proofs.Common.{true, replicate, refl, sym, ◌∙◌, ap}
 use Rattle.abt_machine.specs.Stored.{CallsStored}
 use Rattle.abt_machine.specs.declared.workload.Parts.{Parts}
+use Rattle.abt_drain.specs.Answers.{AllAnswered}
 use Rattle.abt_drain.specs.Crews.{moment_in}
 use Rattle.abt_waves.specs.Leaving.{Lowers}
 use Rattle.abt_waves.specs.Waves.{IsFleetOf}
@@ -46,6 +47,8 @@ returns-in-Some g c =
           (own-fleet g.L.Locked.lock g.L.Locked.clock (λ V k. IsFleetOf g.L.Locked.lock g.L.Locked.clock V Z k c.in_ok-fleet.fleet) c.args.self.workload Z c.args.self.steps c.waves.fleet c.waves.invariant.fleet c.in_ok-fleet.ensures.fleet)
           c.in-Some.outcome c.in-Some.ensures;
       keeps = c.in_ok-fleet.ensures.keeps ∙ c.waves.invariant.keeps;
+      answers = λ all. own-fleet g.L.Locked.lock g.L.Locked.clock (λ V k. AllAnswered V (g.O.Orders.answered c.args.orders.now V) c.waves.fleet.streams → AllAnswered V (g.O.Orders.answered c.args.orders.now V) c.in_ok-fleet.fleet.streams)
+          c.args.self.workload Z c.args.self.steps c.waves.fleet c.waves.invariant.fleet c.in_ok-fleet.ensures.answers (c.waves.invariant.answers all);
     }
 
 pub waves-smaller : goal.waves-smaller
@@ -56,3 +59,14 @@ waves-smaller g c =
     (moment_in c.args.self.workload c.waves.fleet)
     (own-fleet g.L.Locked.lock g.L.Locked.clock (λ V k. Lowers V k (moment_in V c.waves.fleet) (moment_in V c.in_ok-fleet.fleet)) c.args.self.workload Z c.args.self.steps c.waves.fleet c.waves.invariant.fleet c.in_ok-fleet.ensures.lowers)
     c.in-None.ensures
+
+pub waves-preserved : goal.waves-preserved
+waves-preserved g c =
+    let Z = stored_by (g.O.Orders.shapes c.args.orders.now) (g.P.Work.returns c.args.work.now) in
+    record {
+      fleet = own-fleet g.L.Locked.lock g.L.Locked.clock (λ V k. IsFleetOf g.L.Locked.lock g.L.Locked.clock V Z k c.in_ok-fleet.fleet) c.args.self.workload Z c.args.self.steps c.waves.fleet c.waves.invariant.fleet c.in_ok-fleet.ensures.fleet;
+      keeps = c.in_ok-fleet.ensures.keeps ∙ c.waves.invariant.keeps;
+      answers = λ all. own-fleet g.L.Locked.lock g.L.Locked.clock (λ V k. AllAnswered V (g.O.Orders.answered c.args.orders.now V) c.waves.fleet.streams → AllAnswered V (g.O.Orders.answered c.args.orders.now V) c.in_ok-fleet.fleet.streams)
+          c.args.self.workload Z c.args.self.steps c.waves.fleet c.waves.invariant.fleet c.in_ok-fleet.ensures.answers (c.waves.invariant.answers all);
+      flags = c.waves.invariant.flags;
+    }

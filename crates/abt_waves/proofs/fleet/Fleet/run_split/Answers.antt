@@ -3,7 +3,8 @@ use denote.Param.Send.{sendable}
 use Rattle.std.proofs.Common.{ℕ, ◌<◌, ◌≤◌, true, replicate, refl, sym, ◌∙◌, ap, arith}
 use Rattle.abt_machine.specs.Stored.{CallsStored}
 use Rattle.abt_machine.specs.declared.workload.Parts.{Parts}
-use Rattle.abt_order.specs.Stored.{stored_of}
+use Rattle.abt_order.specs.Stored.{IsAnsweredOrder, stored_of}
+use Rattle.abt_drain.specs.Answers.{AllAnswered}
 use Rattle.abt_commons.proofs.Crosses.{Split-sync, SplitPass-send}
 use Rattle.abt_commons.specs.Held.{clock_at}
 use Rattle.abt_commons.specs.Splits.{own_lock}
@@ -63,6 +64,8 @@ returns-in-Some g c =
     record {
       ended = has-ended own_lock clock_at c.args.self.workload Z c.args.self.steps c.in_ok-fleet.fleet one c.in-Some.outcome c.in-Some.ensures;
       keeps = c.in_ok-fleet.ensures.keeps ∙ c.waves.invariant.keeps;
+      answers = λ all. own-fleet own_lock clock_at (λ V k. AllAnswered V (IsAnsweredOrder V c.args.orders.now) c.waves.fleet.streams → AllAnswered V (IsAnsweredOrder V c.args.orders.now) c.in_ok-fleet.fleet.streams)
+          c.args.self.workload Z c.args.self.steps c.waves.fleet c.waves.invariant.fleet c.in_ok-fleet.ensures.answers (c.waves.invariant.answers all);
     }
 
 pub returns-in-Some-ended : goal.returns-in-Some-ended
@@ -75,6 +78,10 @@ returns-in-Some-ended g c =
     record {
       ended = has-ended own_lock clock_at c.args.self.workload Z c.args.self.steps c.in_ok-fleet-2.fleet two c.in-Some-ended.end c.in-Some-ended.ensures;
       keeps = c.in_ok-fleet-2.ensures.keeps ∙ (c.in_ok-fleet.ensures.keeps ∙ c.waves.invariant.keeps);
+      answers = λ all. own-fleet own_lock clock_at (λ V k. AllAnswered V (IsAnsweredOrder V c.args.orders.now) c.in_ok-fleet.fleet.streams → AllAnswered V (IsAnsweredOrder V c.args.orders.now) c.in_ok-fleet-2.fleet.streams)
+          c.args.self.workload Z c.args.self.steps c.in_ok-fleet.fleet one c.in_ok-fleet-2.ensures.answers
+          (own-fleet own_lock clock_at (λ V k. AllAnswered V (IsAnsweredOrder V c.args.orders.now) c.waves.fleet.streams → AllAnswered V (IsAnsweredOrder V c.args.orders.now) c.in_ok-fleet.fleet.streams)
+          c.args.self.workload Z c.args.self.steps c.waves.fleet c.waves.invariant.fleet c.in_ok-fleet.ensures.answers (c.waves.invariant.answers all));
     }
 
 pub waves-smaller : goal.waves-smaller
@@ -94,3 +101,18 @@ waves-smaller g c =
     (work_at c.args.self.workload c.args.self.steps (moment_in c.args.self.workload c.waves.fleet)) less most where
       shorter : (a b d : ℕ) → a < b → b ≤ d → a < d
       shorter a b d p q = omega arith
+
+pub waves-preserved : goal.waves-preserved
+waves-preserved g c =
+    let Z = stored_of c.args.orders.now (g.P.Work.returns c.args.work.now) in
+    let one : IsFleetOf own_lock clock_at c.args.self.workload Z c.args.self.steps c.in_ok-fleet.fleet =
+    own-fleet own_lock clock_at (λ V k. IsFleetOf own_lock clock_at V Z k c.in_ok-fleet.fleet) c.args.self.workload Z c.args.self.steps c.waves.fleet c.waves.invariant.fleet c.in_ok-fleet.ensures.fleet in
+    record {
+      fleet = own-fleet own_lock clock_at (λ V k. IsFleetOf own_lock clock_at V Z k c.in_ok-fleet-2.fleet) c.args.self.workload Z c.args.self.steps c.in_ok-fleet.fleet one c.in_ok-fleet-2.ensures.fleet;
+      keeps = c.in_ok-fleet-2.ensures.keeps ∙ (c.in_ok-fleet.ensures.keeps ∙ c.waves.invariant.keeps);
+      answers = λ all. own-fleet own_lock clock_at (λ V k. AllAnswered V (IsAnsweredOrder V c.args.orders.now) c.in_ok-fleet.fleet.streams → AllAnswered V (IsAnsweredOrder V c.args.orders.now) c.in_ok-fleet-2.fleet.streams)
+          c.args.self.workload Z c.args.self.steps c.in_ok-fleet.fleet one c.in_ok-fleet-2.ensures.answers
+          (own-fleet own_lock clock_at (λ V k. AllAnswered V (IsAnsweredOrder V c.args.orders.now) c.waves.fleet.streams → AllAnswered V (IsAnsweredOrder V c.args.orders.now) c.in_ok-fleet.fleet.streams)
+          c.args.self.workload Z c.args.self.steps c.waves.fleet c.waves.invariant.fleet c.in_ok-fleet.ensures.answers (c.waves.invariant.answers all));
+      flags = c.waves.invariant.flags;
+    }

@@ -4,6 +4,7 @@ use Rattle.std.proofs.Common.{ℕ, ◌<◌, true, length, slice_get, refl, sym, 
 use Rattle.std.proofs.lemmas.List.{length-replicate}
 use Rattle.abt_machine.specs.Stored.{CallsStored}
 use Rattle.abt_commons.proofs.Numbers.{get-replicate}
+use Rattle.abt_drain.specs.Answers.{AllAnswered}
 use Rattle.abt_drain.specs.Crews.{CrewValue, moment_in}
 use Rattle.abt_waves.specs.Leaving.{HasLeft, Lowers}
 use Rattle.abt_waves.specs.Waves.{IsFleetOf}
@@ -42,4 +43,6 @@ returns g c =
       fleet = subst (λ (v : CrewValue). IsFleetOf g.L.Locked.lock g.L.Locked.clock v.workload Z v.steps after) c.self.view_is next;
       lowers = subst (λ (v : CrewValue). Lowers v.workload v.steps (moment_in v.workload v) (moment_in v.workload after)) c.self.view_is lowers;
       keeps = ap (λ (v : CrewValue). v.keeps) c.self.view_is;
+      answers = subst (λ (v : CrewValue). AllAnswered v.workload (g.O.Orders.answered c.args.orders.now v.workload) v.streams → AllAnswered v.workload (g.O.Orders.answered c.args.orders.now v.workload) after.streams)
+          c.self.view_is c.in_ok-objects.ensures.answers;
     }
