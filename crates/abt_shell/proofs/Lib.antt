@@ -1,3 +1,4 @@
 pub mod Calls
 pub mod Fetched
+pub mod Reports
 mod Telling

@@ -1,9 +1,11 @@
 //! The bytes of files, and the journals in them.
 
-ghost use Rattle.std.specs.Prelude.{◌≡◌, ◌≢◌, ◌<◌, ◌≤◌, ◌+◌, ℕ, List, All, IfErr, IfOk, IfSome, IsErrOf, length, take};
+ghost use Rattle.std.specs.Prelude.{◌≡◌, ◌≢◌, ◌<◌, ◌≤◌, ◌+◌, ℕ, List, All, IfErr, IfOk, IfSome, IsErrOf, length, take, Option};
+ghost use Rattle.abt_machine.specs.Words.{Text};
 ghost use Rattle.abt_report.specs.Journals.{IsEvent, IsTextOf};
 ghost use Rattle.abt_shell.specs.Fetched.{HasNoJournal, Unread};
 ghost use Rattle.abt_shell.specs.declared.status.Stop.TheVariants.{CannotRead};
+ghost use Rattle.abt_source.specs.Seen.{Agree, Grows};
 
 use crate::status::{Stop, Wrong};
 use abt_machine::Journal;
@@ -24,12 +26,13 @@ pub fn bytes_of<F: Files>(
     most: usize,
 ) -> Result<Vec<u8>, Stop>
     requires { most < usize.MAX }
-    ensures bytes { IfOk result (λ v. IfSome (F.file files.old file.now) (λ xs. v.items ≡ take (most + 1) xs)) }
+    ensures bytes { (file_of : Text → Option Text) → Agree (F.seen files.old) (F.seen files.new) file_of
+        → IfOk result (λ v. IfSome (file_of file.now) (λ xs. v.items ≡ take (most + 1) xs)) }
     ensures bound { IfOk result (λ v. length v.items ≤ most + 1) }
     ensures stop { IfErr result (Unread (F.faults files.old, F.faults files.new)) }
     ensures absent { F.absent files.old file.now → IsErrOf result CannotRead }
     ensures faulty { F.faults files.new ≢ F.faults files.old → IsErrOf result CannotRead }
-    ensures same { (name : List ℕ) → F.file files.new name ≡ F.file files.old name }
+    ensures grows { Grows (F.seen files.old) (F.seen files.new) }
     ensures missing { (name : List ℕ) → F.absent files.old name → F.absent files.new name }
     ensures begun { IfSome (F.begun files.new) (λ name. name ≡ file.now) }
     ensures later { F.faults files.old ≤ F.faults files.new }
@@ -48,9 +51,12 @@ pub fn bytes_of<F: Files>(
 /// `BadLine` if the bytes are not a journal's text, with line 0 if they are too many, `CannotRead` if they cannot be read, `OutOfMemory`
 /// if memory is refused.
 pub fn fetch_journal<F: Files>(alloc: Global, file: &str, files: &mut F) -> Result<Journal, Stop>
-    ensures reads { IfOk result (λ journal. IfSome (F.file files.old file.now) (IsTextOf journal)) }
+    ensures reads { (file_of : Text → Option Text) → Agree (F.seen files.old) (F.seen files.new) file_of
+        → IfOk result (λ journal. IfSome (file_of file.now) (IsTextOf journal)) }
+    ensures grows { Grows (F.seen files.old) (F.seen files.new) }
     ensures events { IfOk result (All IsEvent) }
-    ensures stop { IfErr result (HasNoJournal (F.file files.old file.now) (F.faults files.old, F.faults files.new)) }
+    ensures stop { (file_of : Text → Option Text) → Agree (F.seen files.old) (F.seen files.new) file_of
+        → IfErr result (HasNoJournal (file_of file.now) (F.faults files.old, F.faults files.new)) }
     ensures absent { F.absent files.old file.now → IsErrOf result CannotRead }
     ensures faulty { F.faults files.new ≢ F.faults files.old → IsErrOf result CannotRead }
     ensures begun { IfSome (F.begun files.new) (λ name. name ≡ file.now) }

@@ -3,12 +3,14 @@
 
 mod fetching;
 mod more;
+mod outputs;
 mod process;
 mod status;
 mod writing;
 
 pub use fetching::{bytes_of, fetch_journal};
 pub use more::{More, more_of};
+pub use outputs::{Output, fetch_output};
 pub use process::run;
 pub use status::{Stop, Wrong, number_of_outcome};
 pub use writing::{conclude_run, stop_by, stop_without_run, write_out};

@@ -3,3 +3,4 @@ pub mod Naming
 pub mod Output
 pub mod Pieces
 pub mod Process
+pub mod Seen

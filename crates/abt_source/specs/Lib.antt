@@ -3,4 +3,5 @@ pub mod MemoryFiles
 pub mod MemorySink
 pub mod RealFiles
 pub mod RealSink
+pub mod Seen
 pub mod Source

@@ -9,6 +9,7 @@ mod put;
 mod reading;
 mod real_files;
 mod real_sink;
+mod recalling;
 mod writing;
 
 pub use fault::{Blamed, Reason};

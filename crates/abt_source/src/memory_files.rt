@@ -3,6 +3,7 @@
 ghost use Rattle.std.specs.Prelude.{◌≡◌, ◌<◌, ◌+◌, ◌^◌, ◌++◌, ◌↔◌, [], length, take, drop, position, min, Some};
 ghost use Rattle.std.specs.Prelude.{IsErr, IsNone, IsTrue, IfOk, IfSome, OnOk, OnErr, IsErrOf, Contains, option_map};
 ghost use Rattle.abt_source.specs.Fault.{blame, blame_of};
+ghost use Rattle.abt_source.specs.Seen.{Holds};
 ghost use Rattle.abt_source.specs.Source.{next_count};
 ghost use Rattle.abt_source.specs.MemoryFiles.{FailsToBegin, IsWhy, file_of, is_named, left_of};
 ghost use Rattle.abt_source.specs.MemoryFiles.{not_begun, given_name, after_success, after_failure};
@@ -152,7 +153,7 @@ fn copy(from: &[u8], into: &mut [u8]) -> usize
 }
 
 impl Files for MemoryFiles {
-    ghost file = { λ m n. file_of m.files n };
+    ghost seen = { λ m. Holds (file_of m.files) };
 
     ghost absent = { λ m n. IsNone (file_of m.files n) };
 

@@ -1,8 +1,9 @@
 //! Files that are read by name, and a whole file read.
 
-ghost use Rattle.std.specs.Prelude.{◌≡◌, ◌<◌, ◌≤◌, ◌+◌, ℕ, List, length, take, drop, Option, Some, option_map};
+ghost use Rattle.std.specs.Prelude.{◌≡◌, ◌<◌, ◌≤◌, ◌+◌, ℕ, List, [], false, length, take, drop, Option, Some, option_map};
 ghost use Rattle.std.specs.Prelude.{IfSome, IfOk, OnOk, OnErr, IsErrOf};
 ghost use Rattle.abt_source.specs.declared.reading.NotFetched.TheVariants.{Memory};
+ghost use Rattle.abt_source.specs.Seen.{Agree, Grows, Seen, closed, gave, gave_on, held, reading};
 ghost use Rattle.abt_source.specs.Source.{Rose, NothingLeft, ReadGives, LeavesAnEnd};
 
 use crate::{Blamed, Failed};
@@ -29,8 +30,8 @@ impl From<AllocError> for NotFetched {
 
 /// Files that are read by name, each from its first byte on.
 pub trait Files {
-    /// The bytes of a name, if they are observable. No call changes them.
-    ghost file: { Self → List ℕ → Option (List ℕ) };
+    /// What is observable of the bytes: those of each name, which no call changes, or what each reading gave until now.
+    ghost seen: { Self → Seen };
 
     /// That no file has the name, if that is observable. It stays so.
     ghost absent: { Self → List ℕ → Type 0 };
@@ -46,11 +47,12 @@ pub trait Files {
 
     /// Starts at the first byte of a file. A name that no file has is a fault.
     fn begin(&mut self, name: &str) -> Result<(), NotFetched>
-        ensures file { (n : List ℕ) → file self.new n ≡ file self.old n }
+        ensures begins { OnOk result (seen self.new ≡ gave (reading name.now [] false) (seen self.old)) }
+        ensures closed { OnErr result (seen self.new ≡ closed (seen self.old)) }
         ensures absent { absent self.old name.now → IsErrOf result NotFetched.Failed }
         ensures missing { (n : List ℕ) → absent self.old n → absent self.new n }
         ensures begun { IfSome (begun self.new) (λ n. n ≡ name.now) }
-        ensures left { OnOk result (left self.new ≡ file self.old name.now) }
+        ensures left { OnOk result (left self.new ≡ held (seen self.old) name.now) }
         ensures nothing { OnErr result (NothingLeft (left self.new)) }
         ensures later { faults self.old ≤ faults self.new }
         ensures cause { IsErrOf result NotFetched.Failed → Rose (faults self.old) (faults self.new) }
@@ -60,7 +62,8 @@ pub trait Files {
     /// Writes the next bytes into the slice, and none only at the end, and returns how many.
     fn read(&mut self, into: &mut [u8]) -> Result<usize, Failed>
         requires { 0 < length into.old }
-        ensures file { (n : List ℕ) → file self.new n ≡ file self.old n }
+        ensures seen { IfOk result (λ n. seen self.new ≡ gave_on (take n into.new) (seen self.old)) }
+        ensures unseen { OnErr result (seen self.new ≡ seen self.old) }
         ensures missing { (n : List ℕ) → absent self.old n → absent self.new n }
         ensures begun { begun self.new ≡ begun self.old }
         ensures bound { IfOk result (λ n. n ≤ length into.new) }
@@ -89,20 +92,20 @@ pub fn read_all<F: Files>(
     most: usize,
 ) -> Result<Vec<u8>, NotFetched>
     requires { most < usize.MAX }
-    ensures bytes { IfOk result (λ v. IfSome (F.file files.old name.now)
-        (λ xs. v.items ≡ take (most + 1) xs)) }
+    ensures bytes { (file_of : List ℕ → Option (List ℕ)) → Agree (F.seen files.old) (F.seen files.new) file_of
+        → IfOk result (λ v. IfSome (file_of name.now) (λ xs. v.items ≡ take (most + 1) xs)) }
+    ensures grows { Grows (F.seen files.old) (F.seen files.new) }
     ensures absent { F.absent files.old name.now → IsErrOf result NotFetched.Failed }
     ensures bound { IfOk result (λ v. length v.items ≤ most + 1) }
     ensures left { OnOk result (F.left files.new
-        ≡ option_map (drop (most + 1)) (F.file files.old name.now)) }
+        ≡ option_map (drop (most + 1)) (held (F.seen files.old) name.now)) }
 
     // After a failure, or if memory ran out, an end of the file is left.
-    ensures stands { OnErr result (LeavesAnEnd (F.file files.old name.now) (F.left files.new)) }
+    ensures stands { OnErr result (LeavesAnEnd (held (F.seen files.old) name.now) (F.left files.new)) }
     ensures cause { IsErrOf result NotFetched.Failed → Rose (F.faults files.old) (F.faults files.new) }
     ensures quiet { OnOk result (F.faults files.new ≡ F.faults files.old) }
     ensures memory { IsErrOf result NotFetched.Memory → F.faults files.new ≡ F.faults files.old }
 
-    ensures file { (n : List ℕ) → F.file files.new n ≡ F.file files.old n }
     ensures missing { (n : List ℕ) → F.absent files.old n → F.absent files.new n }
     ensures begun { IfSome (F.begun files.new) (λ n. n ≡ name.now) }
     ensures later { F.faults files.old ≤ F.faults files.new }

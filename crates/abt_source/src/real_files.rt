@@ -1,20 +1,24 @@
-//! The files and the standard input of the process. Contracts do not see what they hold; they see whether a file is begun,
-//! the name that was given last, if it is kept, and the count of failed calls.
+//! The files and the standard input of the process. Contracts see of what they hold what the host gave when it was read; and
+//! whether a file is begun, the name that was given last, if it is kept, and the count of failed calls.
 
-ghost use Rattle.std.specs.Prelude.{◌≡◌, ◌<◌, ◌≤◌, length, None, Some, IfOk, IfSome, OnOk, OnErr, IsErrOf, false};
-ghost use Rattle.abt_source.specs.RealFiles.{after_fault, none_begun, one_begun, unread};
+ghost use Rattle.std.specs.Prelude.{◌≡◌, ◌<◌, ◌≤◌, [], ◌∷◌, length, take, None, Some, IfOk, IfSome, OnOk, OnErr, IsErrOf, false};
+ghost use Rattle.abt_source.specs.RealFiles.{after_fault, after_reading, none_begun, one_begun, unread};
+ghost use Rattle.abt_source.specs.Seen.{Gave, reading};
 ghost use Rattle.abt_source.specs.Source.{next_count};
 
 use crate::fault::{blame_for, kept_name};
+use crate::recalling::{Recalled, recall_begin, recall_read};
 use crate::{Blamed, Failed, Files, NotFetched, Reason};
 use std::alloc::Global;
 use std::io::{ErrorKind, Read};
 use std::marker::Model;
 use std::rt::Files as HostFiles;
+use std::snapshot::Snapshot;
 use std::{fs, io};
 
-/// The files of the process, and its standard input by the name `-`. Contracts see whether one is begun, the name that was
-/// given last, if there was memory to keep it, and the count of faults. A directory is begun, and each read of it fails.
+/// The files of the process, and its standard input by the name `-`. Contracts see what each reading gave, whether one is begun,
+/// the name that was given last, if there was memory to keep it, and the count of faults. A directory is begun, and each read of
+/// it fails. What readings gave is recalled for the proof alone and takes no memory.
 #[derive(Drop)]
 pub struct RealFiles<'a, R: HostFiles + Input> {
     rt: &'a R,
@@ -23,6 +27,7 @@ pub struct RealFiles<'a, R: HostFiles + Input> {
     name: Option<String>,
     reason: Option<Reason>,
     faults: u64,
+    last: Option<Snapshot<Recalled>>,
 }
 
 // The file that was begun last.
@@ -34,17 +39,22 @@ enum Begun<F> {
 
 impl<'a, R: HostFiles + Input> Model for RealFiles<'a, R> {
     ghost use Rattle.std.specs.Prelude.{is_some, option_map, string_bytes};
-    ghost use Rattle.abt_source.specs.RealFiles.{FilesOfProcess};
+    ghost use Rattle.abt_source.specs.RealFiles.{FilesOfProcess, recalled};
 
     ghost Value = { FilesOfProcess };
 
-    ghost view = { λ files. record { begun = is_some files.begun; name = option_map string_bytes files.name; faults = files.faults } };
+    ghost view = { λ files. record {
+      begun = is_some files.begun;
+      name = option_map string_bytes files.name;
+      faults = files.faults;
+      readings = (recalled files.last).readings;
+    } };
 }
 
 impl<'a, R: HostFiles + Input> RealFiles<'a, R> {
     /// No file is begun, and so nothing is left.
     pub fn new(rt: &'a R, alloc: Global) -> Self
-        ensures { result ≡ none_begun None 0 }
+        ensures { result ≡ none_begun None 0 [] }
     {
         RealFiles {
             rt,
@@ -53,6 +63,7 @@ impl<'a, R: HostFiles + Input> RealFiles<'a, R> {
             name: None,
             reason: None,
             faults: 0,
+            last: None,
         }
     }
 
@@ -79,7 +90,7 @@ impl<'a, R: HostFiles + Input> RealFiles<'a, R> {
 }
 
 impl<R: HostFiles + Input> Files for RealFiles<'_, R> {
-    ghost file = { λ _ _. None };
+    ghost seen = { λ files. Gave files.begun files.readings };
 
     ghost absent = { λ _ _. ⊥ };
 
@@ -91,9 +102,9 @@ impl<R: HostFiles + Input> Files for RealFiles<'_, R> {
 
     fn begin(&mut self, name: &str) -> Result<(), NotFetched>
         ensures begun { IfSome self.new.name (λ n. n ≡ name.now) }
-        ensures ok { OnOk result (self.new ≡ one_begun self.new.name self.old.faults) }
-        ensures failed { IsErrOf result NotFetched.Failed → self.new ≡ none_begun self.new.name (next_count self.old.faults) }
-        ensures memory { IsErrOf result NotFetched.Memory → self.new ≡ none_begun self.new.name self.old.faults }
+        ensures ok { OnOk result (self.new ≡ one_begun self.new.name self.old.faults (reading name.now [] false ∷ self.old.readings)) }
+        ensures failed { IsErrOf result NotFetched.Failed → self.new ≡ none_begun self.new.name (next_count self.old.faults) self.old.readings }
+        ensures memory { IsErrOf result NotFetched.Memory → self.new ≡ none_begun self.new.name self.old.faults self.old.readings }
     {
         self.begun = None;
         self.name = kept_name(self.alloc, name);
@@ -101,6 +112,7 @@ impl<R: HostFiles + Input> Files for RealFiles<'_, R> {
         match self.open(name) {
             Ok(begun) => {
                 self.begun = Some(begun);
+                recall_begin(&mut self.last, name);
                 Ok(())
             }
             Err(e) if e.kind() == ErrorKind::OutOfMemory => Err(NotFetched::Memory),
@@ -116,11 +128,16 @@ impl<R: HostFiles + Input> Files for RealFiles<'_, R> {
         requires { 0 < length into.old }
         ensures bound { IfOk result (λ n. n ≤ length into.new) }
         ensures nothing { self.old.begun ≡ false → IfOk result (λ n. n ≡ 0) }
-        ensures ok { OnOk result (self.new ≡ self.old) }
+        ensures ok { IfOk result (λ n. self.new ≡ after_reading self.old (take n into.new)) }
         ensures failed { OnErr result (self.new ≡ after_fault self.old) }
     {
         match self.fetch(into) {
-            Ok(n) => Ok(n),
+            Ok(n) => {
+                if self.begun.is_some() {
+                    recall_read(&mut self.last, &into[..n]);
+                }
+                Ok(n)
+            }
             Err(e) => {
                 self.reason = Some(reason_of(e.kind()));
                 self.faults = self.faults.saturating_add(1);
