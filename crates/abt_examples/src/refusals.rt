@@ -7,7 +7,7 @@ pub(crate) type Refusal = (&'static str, &'static str, &'static [u8], u8, &'stat
 
 // What is said of words whose first is the name of no command.
 const BAD_WORDS: &str =
-    "abtrun: bad command line\nusage: abtrun run FILE [--steps V] [--journal] [--why] [--in-turn | --seed N]\nabtrun run FILE --schedule JOURNAL [--why]\nabtrun self N\nabtrun check WORKLOAD JOURNAL [--end]\nabtrun flow FILE\nabtrun explore FILE [--states M] [--end K [--journal]]\nabtrun --help\nabtrun --version\n";
+    "abtrun: bad command line\nusage: abtrun run FILE [--steps V] [--journal] [--why] [--in-turn | --seed N]\nabtrun run FILE --schedule JOURNAL [--why]\nabtrun self N\nabtrun check WORKLOAD JOURNAL [--end]\nabtrun check WORKLOAD OUTPUT --report [--why]\nabtrun flow FILE\nabtrun explore FILE [--states M] [--end K [--journal]]\nabtrun --help\nabtrun --version\n";
 
 // And of those whose first is `run`, or `self`.
 const BAD_RUN: &str =

@@ -18,6 +18,7 @@ use Rattle.abt_words.specs.declared.commands.CheckWords.{CheckWords}
 use Rattle.abt_words.specs.declared.commands.Command.{Command}
 use Rattle.abt_words.specs.declared.commands.Command.TheVariants as command
 use Rattle.abt_words.specs.declared.commands.ExploreWords.{ExploreWords}
+use Rattle.abt_words.specs.declared.commands.OutputWords.{OutputWords}
 use Rattle.abt_words.specs.Commands.{Says}
 use Rattle.abt_words.proofs.OneCommand.{one-command}
 use Rattle.abt_shell.specs.Calls.{Holds}
@@ -30,7 +31,7 @@ use Rattle.abt_run.specs.SelfAdds.{SelfAdds}
 use Rattle.abt_run.specs.Status.{number_of_conclusion}
 use Rattle.abt_run.specs.Steps.{MayMake}
 use Rattle.abt_run.specs.declared.status.Conclusion.{Conclusion}
-use Rattle.abt_run.specs.declared.status.Conclusion.TheVariants.{Ended, Judged, Ends, Followed, Strays, Flows, NotConfluent, Undefined, Finishes, Sticks, GoesOn, Unexplored, Helps, NamesVersion}
+use Rattle.abt_run.specs.declared.status.Conclusion.TheVariants.{Ended, Judged, Ends, Followed, Strays, Belongs, Differs, Flows, NotConfluent, Undefined, Finishes, Sticks, GoesOn, Unexplored, Helps, NamesVersion}
 use Rattle.abt_run.proofs.Outputs.{run-ended, run-is-run}
 
 -- words ask for as many adders as there may be
@@ -46,6 +47,9 @@ module _ (c : Call) (units : ℕ) (says : Says c.given.words (command.SelfRun un
 
   no-check : (w : CheckWords) → Says c.given.words (command.Check w) → ⊥
   no-check w said = let same = one-command c.given.words (command.SelfRun units) (command.Check w) says said in cc
+
+  no-output : (w : OutputWords) → Says c.given.words (command.CheckOutput w) → ⊥
+  no-output w said = let same = one-command c.given.words (command.SelfRun units) (command.CheckOutput w) says said in cc
 
   no-flow : (file : Text) → Says c.given.words (command.Flow file) → ⊥
   no-flow file said = let same = one-command c.given.words (command.SelfRun units) (command.Flow file) says said in cc
@@ -93,6 +97,8 @@ module _ (c : Call) (units : ℕ) (says : Says c.given.words (command.SelfRun un
   adds-concluded (Ends end) text prints = absurd (no-check prints.0.compares.asked prints.0.compares.says)
   adds-concluded (Followed end) text prints = absurd (no-check prints.0.compares.asked prints.0.compares.says)
   adds-concluded (Strays at) text prints = absurd (no-check prints.0.compares.asked prints.0.compares.says)
+  adds-concluded (Belongs o) text prints = absurd (no-output prints.0.compares.asked prints.0.compares.says)
+  adds-concluded Differs text prints = absurd (no-output prints.0.compares.asked prints.0.compares.says)
   adds-concluded Flows text prints = absurd (no-flow prints.0.asks.file prints.0.asks.says)
   adds-concluded NotConfluent text prints = absurd (no-flow prints.0.asks.file prints.0.asks.says)
   adds-concluded Undefined text prints = absurd (no-flow prints.0.asks.file prints.0.asks.says)

@@ -1,13 +1,11 @@
 -- Which status a call answers if its cause holds.
-use Rattle.std.proofs.Common.{◌≡◌, ◌≢◌, ◌<◌, ◌≤◌, ◌⊎◌, ℕ, List, [], ◌∷◌, length, Option, None, Some, inl, inr, refl, sym, ap, subst, ◌∙◌, arith}
+use Rattle.std.proofs.Common.{◌≡◌, ◌≢◌, ◌≤◌, ◌⊎◌, ℕ, List, [], ◌∷◌, length, Option, None, Some, inl, inr, refl, sym, ap, subst, ◌∙◌, arith}
 use Rattle.std.specs.Prelude.{IfSome}
-use Rattle.std.proofs.lemmas.List.{take_all}
 use Rattle.abt_machine.specs.declared.events.Event.{Event}
 use Rattle.abt_machine.specs.declared.events.Outcome.{Outcome}
 use Rattle.abt_machine.specs.declared.events.Outcome.TheVariants as outcome
 use Rattle.abt_machine.specs.declared.events.Piece.{Piece}
 use Rattle.abt_machine.specs.declared.numbers.StreamNo.{StreamNo}
-use Rattle.abt_machine.specs.Outcomes.{EndsAs}
 use Rattle.abt_machine.specs.Stored.{Stored}
 use Rattle.abt_machine.specs.declared.program.Fault.{Fault}
 use Rattle.abt_machine.specs.declared.workload.Parts.{Parts}
@@ -18,7 +16,7 @@ use Rattle.abt_bounds.specs.Laws.{HasNoRevive, ops_in}
 use Rattle.abt_bounds.proofs.Budgets.{steps-bound-budgets}
 use Rattle.abt_check.specs.declared.verdict.Verdict.{Verdict}
 use Rattle.abt_check.specs.declared.verdict.Verdict.TheVariants as verdict
-use Rattle.abt_check.specs.Verdicts.{IsJudged, IsRunUpTo, IsStampedRun}
+use Rattle.abt_check.specs.Verdicts.{IsJudged, IsStampedRun}
 use Rattle.abt_drain.specs.Looks.{EndsWith}
 use Rattle.abt_flow.specs.Confluent.{Confluent}
 use Rattle.abt_flow.specs.Flow.{Functions, IsFlow}
@@ -30,6 +28,7 @@ use Rattle.abt_words.specs.declared.commands.Command.TheVariants as command
 use Rattle.abt_words.specs.declared.commands.ExploreWords.{ExploreWords}
 use Rattle.abt_words.specs.declared.commands.Shows.{Shows}
 use Rattle.abt_words.specs.declared.commands.Shows.TheVariants as show
+use Rattle.abt_words.specs.declared.commands.OutputWords.{OutputWords}
 use Rattle.abt_words.specs.Commands.{Says}
 use Rattle.abt_words.proofs.OneCommand.{one-command}
 use Rattle.abt_workload.specs.Hints.{RefusesSo}
@@ -44,21 +43,24 @@ use Rattle.abt_shell.specs.Status.{Status, Concluded, Stopped, CannotWrite, numb
 use Rattle.abt_shell.specs.Told.{Grew}
 use Rattle.abt_shell.proofs.Calls.{if-some, reads-well, writes-well}
 use Rattle.abt_shell.specs.Fetched.{IsNoJournalSo}
+use Rattle.abt_shell.specs.Outputs.{IsNoOutputSo, IsOutputOf}
 use Rattle.abt_shell.proofs.Fetched.{of-observed}
-use Rattle.abt_run.specs.Call.{Call, Decides, HasEnded, IsAnswered, IsOfRun, JudgesBy, MissesFiles, MissesJournals, RefusesSteps, RunsKnown, program}
-use Rattle.abt_run.specs.Given.{Compares, Given, IsReadFrom, SaysNothing, Tells, workload_file}
+use Rattle.abt_run.specs.Call.{Call, Decides, HasEnded, IsAnswered, IsOfRun, IsRunOutput, JudgesBy, MissesFiles, MissesJournals, MissesOutputs, RefusesSteps, RunsKnown, program}
+use Rattle.abt_run.specs.Given.{Compares, ComparesOutput, Given, IsReadFrom, SaysNothing, Tells, workload_file}
 use Rattle.abt_run.specs.Prepared.{HasNoWorkload, IsBadCommand, LacksSecond}
 use Rattle.abt_run.specs.Ends.{ShowsEnds}
-use Rattle.abt_run.specs.Printed.{AsksFlow, HasJudged, IsFor, LeadsTo, Prints, Ran, ShowsJudged, schedule_of}
+use Rattle.abt_run.specs.Printed.{AsksFlow, HasJudged, HasJudgedOutput, IsFor, LeadsTo, Prints, Ran, ShowsJudged, ShowsOutput, schedule_of}
 use Rattle.abt_run.specs.Status.{number_of_conclusion}
 use Rattle.abt_run.specs.declared.keeping.Keep.{Keep}
 use Rattle.abt_run.specs.Steps.{AsksBeyond, LetsStreams, MayMake}
 use Rattle.abt_run.specs.declared.status.Conclusion.{Conclusion}
-use Rattle.abt_run.specs.declared.status.Conclusion.TheVariants.{Ended, Judged, Ends, Followed, Strays, Flows, NotConfluent, Undefined, Finishes, Sticks, GoesOn, Unexplored, Helps, NamesVersion}
+use Rattle.abt_run.specs.declared.status.Conclusion.TheVariants.{Ended, Judged, Ends, Followed, Strays, Belongs, Differs, Flows, NotConfluent, Undefined, Finishes, Sticks, GoesOn, Unexplored, Helps, NamesVersion}
 use Rattle.abt_run.proofs.Adding.{adds-up}
+use Rattle.abt_run.proofs.Belonging.{belongs-to, no-bad-line, no-difference}
+use Rattle.abt_run.proofs.Judging.{not-ended, not-run}
 use Rattle.abt_run.proofs.Outputs.{run-ended, run-is-run}
 use Rattle.abt_run.proofs.Preparing.{none-is, some-is}
-use Rattle.abt_run.proofs.Stepping.{check-asks-none, flow-asks-none, same-number, same-steps}
+use Rattle.abt_run.proofs.Stepping.{check-asks-none, flow-asks-none, output-asks-none, same-number, same-steps}
 use Rattle.abt_run.proofs.Texts.{one-journal}
 
 -- Files.
@@ -114,8 +116,26 @@ check-is v w e = cc
 flow-is : (f e : Text) → command.Flow f ≡ command.Flow e → f ≡ e
 flow-is f e same = cc
 
+check-is-no-output : (w : CheckWords) (v : OutputWords) → command.Check w ≡ command.CheckOutput v → ⊥
+check-is-no-output w v e = cc
+
+output-is : (v w : OutputWords) → command.CheckOutput v ≡ command.CheckOutput w → v ≡ w
+output-is v w e = cc
+
+output-is-no-flow : (w : OutputWords) (f : Text) → command.CheckOutput w ≡ command.Flow f → ⊥
+output-is-no-flow w f e = cc
+
 check-is-no-flow : (w : CheckWords) (f : Text) → command.Check w ≡ command.Flow f → ⊥
 check-is-no-flow w f e = cc
+
+output-is-no-search : (w : OutputWords) (x : ExploreWords) → command.CheckOutput w ≡ command.Explore x → ⊥
+output-is-no-search w x e = cc
+
+output-is-no-help : (w : OutputWords) → command.CheckOutput w ≡ command.Help → ⊥
+output-is-no-help w e = cc
+
+output-is-no-version : (w : OutputWords) → command.CheckOutput w ≡ command.Version → ⊥
+output-is-no-version w e = cc
 
 check-is-no-search : (w : CheckWords) (x : ExploreWords) → command.Check w ≡ command.Explore x → ⊥
 check-is-no-search w x e = cc
@@ -140,6 +160,7 @@ runs-read : (g : Given) (d : Command) (file : Text) (W : Parts) → IsFor d g W 
 runs-read g (command.Run w) file W is names = subst (λ (n : Text). IsReadFrom g n W) (some-is w.file file names) is
 runs-read g (command.SelfRun units) file W is names = absurd (none-is file names)
 runs-read g (command.Check w) file W is names = absurd is
+runs-read g (command.CheckOutput w) file W is names = absurd is
 runs-read g (command.Flow f) file W is names = absurd is
 runs-read g (command.Explore w) file W is names = absurd is
 runs-read g command.Help file W is names = absurd is
@@ -150,6 +171,7 @@ runs-same : (g : Given) (d : Command) (W V : Parts) → RunsKnown d g W → IsFo
 runs-same g (command.Run w) W V known is = same-workload g w.file W V known is
 runs-same g (command.SelfRun units) W V known is = is ∙ sym known
 runs-same g (command.Check w) W V known is = absurd known
+runs-same g (command.CheckOutput w) W V known is = absurd known
 runs-same g (command.Flow f) W V known is = absurd known
 runs-same g (command.Explore w) W V known is = absurd known
 runs-same g command.Help W V known is = absurd known
@@ -162,6 +184,7 @@ runs-not-refused g (command.Run w) file W line f known names is =
     not-refused g w.file W line f known (subst (λ (n : Text). IfSome (g.file n) (λ bytes. Refuses bytes line f)) (sym (some-is w.file file names)) is)
 runs-not-refused g (command.SelfRun units) file W line f known names is = none-is file names
 runs-not-refused g (command.Check w) file W line f known names is = known
+runs-not-refused g (command.CheckOutput w) file W line f known names is = known
 runs-not-refused g (command.Flow name) file W line f known names is = known
 runs-not-refused g (command.Explore w) file W line f known names is = known
 runs-not-refused g command.Help file W line f known names is = known
@@ -176,6 +199,7 @@ runs-valid g (command.SelfRun units) W says known = by g.words says
     by [] said = absurd said
     by (name ∷ ws) said = subst IsValid (sym known) (IsValid-generated units said.1.2.3)
 runs-valid g (command.Check w) W says known = absurd known
+runs-valid g (command.CheckOutput w) W says known = absurd known
 runs-valid g (command.Flow f) W says known = absurd known
 runs-valid g (command.Explore w) W says known = absurd known
 runs-valid g command.Help W says known = absurd known
@@ -190,6 +214,8 @@ module _ (g : Given) (keep : Keep) (J : Option (List Event)) (text : Text) where
   printed-says (Ends end) prints = (_, prints.0.compares.says)
   printed-says (Followed end) prints = (_, prints.0.compares.says)
   printed-says (Strays at) prints = (_, prints.0.compares.says)
+  printed-says (Belongs o) prints = (_, prints.0.compares.says)
+  printed-says Differs prints = (_, prints.0.compares.says)
   printed-says Flows prints = (_, prints.0.asks.says)
   printed-says NotConfluent prints = (_, prints.0.asks.says)
   printed-says Undefined prints = (_, prints.0.asks.says)
@@ -219,6 +245,11 @@ module _ (g : Given) (keep : Keep) (J : Option (List Event)) (text : Text) where
         let same : compares.asked.workload ≡ file = some-is compares.asked.workload file (ap workload_file (one-command g.words (command.Check compares.asked) d compares.says says) ∙ names) in
         (W, subst (λ (n : Text). IsReadFrom g n W) same compares.reads)
 
+    output-reads : (W : Parts) (Is : Text → Type 0) → ComparesOutput g W Is → (V : Parts) × IsReadFrom g file V
+    output-reads W Is compares =
+        let same : compares.asked.workload ≡ file = some-is compares.asked.workload file (ap workload_file (one-command g.words (command.CheckOutput compares.asked) d compares.says says) ∙ names) in
+        (W, subst (λ (n : Text). IsReadFrom g n W) same compares.reads)
+
     names-none : (e : Command) → workload_file e ≡ None → Says g.words e → ⊥
     names-none e none said = none-is file (sym none ∙ ap workload_file (one-command g.words e d said says) ∙ names)
 
@@ -229,6 +260,8 @@ module _ (g : Given) (keep : Keep) (J : Option (List Event)) (text : Text) where
     printed-reads (Ends end) prints = judged-reads prints.0.workload (IsTextOf prints.0.journal) prints.0.compares
     printed-reads (Followed end) prints = judged-reads prints.0.workload (IsTextOf prints.0.journal) prints.0.compares
     printed-reads (Strays at) prints = judged-reads prints.0.workload (IsTextOf prints.0.journal) prints.0.compares
+    printed-reads (Belongs o) prints = output-reads prints.0.workload (IsOutputOf prints.0.journal prints.0.report) prints.0.compares
+    printed-reads Differs prints = output-reads prints.0.workload (IsOutputOf prints.0.journal prints.0.report) prints.0.compares
     printed-reads Flows prints = flow-reads prints.0.workload prints.0.asks
     printed-reads NotConfluent prints = flow-reads prints.0.workload prints.0.asks
     printed-reads Undefined prints = flow-reads prints.0.workload prints.0.asks
@@ -243,6 +276,9 @@ module _ (g : Given) (keep : Keep) (J : Option (List Event)) (text : Text) where
   module _ (w : CheckWords) (says : Says g.words (command.Check w)) where
     no-run : (o : Outcome) → Ran g keep J o text → ⊥
     no-run o ran = subst (λ (x : Command). IsFor x g ran.workload) (one-command g.words ran.command (command.Check w) ran.says says) ran.is
+
+    no-output : (W : Parts) (Is : Text → Type 0) → ComparesOutput g W Is → ⊥
+    no-output W Is compares = check-is-no-output w compares.asked (one-command g.words (command.Check w) (command.CheckOutput compares.asked) says compares.says)
 
     no-flow : (W : Parts) → AsksFlow g W → ⊥
     no-flow W asks = check-is-no-flow w asks.file (one-command g.words (command.Check w) (command.Flow asks.file) says asks.says)
@@ -260,6 +296,8 @@ module _ (g : Given) (keep : Keep) (J : Option (List Event)) (text : Text) where
     printed-compares (Ends end) prints = (prints.0.workload, prints.0.journal, prints.0.compares)
     printed-compares (Followed end) prints = (prints.0.workload, prints.0.journal, prints.0.compares)
     printed-compares (Strays at) prints = (prints.0.workload, prints.0.journal, prints.0.compares)
+    printed-compares (Belongs o) prints = absurd (no-output prints.0.workload (IsOutputOf prints.0.journal prints.0.report) prints.0.compares)
+    printed-compares Differs prints = absurd (no-output prints.0.workload (IsOutputOf prints.0.journal prints.0.report) prints.0.compares)
     printed-compares Flows prints = absurd (no-flow prints.0.workload prints.0.asks)
     printed-compares NotConfluent prints = absurd (no-flow prints.0.workload prints.0.asks)
     printed-compares Undefined prints = absurd (no-flow prints.0.workload prints.0.asks)
@@ -281,12 +319,39 @@ module _ (g : Given) (keep : Keep) (J : Option (List Event)) (text : Text) where
           subst (λ (x : CheckWords). IfSome (g.file x.journal) Is) same compares.is,
         )
 
+  -- words that ask for an output to be checked print what is shown of it
+  module _ (w : OutputWords) (says : Says g.words (command.CheckOutput w)) where
+    output-no-run : (o : Outcome) → Ran g keep J o text → ⊥
+    output-no-run o ran = subst (λ (x : Command). IsFor x g ran.workload) (one-command g.words ran.command (command.CheckOutput w) ran.says says) ran.is
+
+    output-no-check : (W : Parts) (Is : Text → Type 0) → Compares g W Is → ⊥
+    output-no-check W Is compares = check-is-no-output compares.asked w (one-command g.words (command.Check compares.asked) (command.CheckOutput w) compares.says says)
+
+    output-no-flow : (W : Parts) → AsksFlow g W → ⊥
+    output-no-flow W asks = output-is-no-flow w asks.file (one-command g.words (command.CheckOutput w) (command.Flow asks.file) says asks.says)
+
+    output-no-ends : (c : Conclusion) → ShowsEnds g c text → ⊥
+    output-no-ends c shows = output-is-no-search w shows.asked (one-command g.words (command.CheckOutput w) (command.Explore shows.asked) says shows.asks.says)
+
+    same-output : (W : Parts) (Is : Text → Type 0) → (compares : ComparesOutput g W Is) → compares.asked ≡ w
+    same-output W Is compares = output-is compares.asked w (one-command g.words (command.CheckOutput compares.asked) (command.CheckOutput w) compares.says says)
+
+    compared-output : (W : Parts) (Is : Text → Type 0) → ComparesOutput g W Is → IsReadFrom g w.workload W × IfSome (g.file w.output) Is
+    compared-output W Is compares =
+        let same : compares.asked ≡ w = same-output W Is compares in (
+          subst (λ (x : OutputWords). IsReadFrom g x.workload W) same compares.reads,
+          subst (λ (x : OutputWords). IfSome (g.file x.output) Is) same compares.is,
+        )
+
   module _ (file : Text) (says : Says g.words (command.Flow file)) where
     flow-no-run : (o : Outcome) → Ran g keep J o text → ⊥
     flow-no-run o ran = subst (λ (x : Command). IsFor x g ran.workload) (one-command g.words ran.command (command.Flow file) ran.says says) ran.is
 
     flow-no-check : (W : Parts) (Is : Text → Type 0) → Compares g W Is → ⊥
     flow-no-check W Is compares = check-is-no-flow _ file (one-command g.words (command.Check compares.asked) (command.Flow file) compares.says says)
+
+    flow-no-output : (W : Parts) (Is : Text → Type 0) → ComparesOutput g W Is → ⊥
+    flow-no-output W Is compares = output-is-no-flow _ file (one-command g.words (command.CheckOutput compares.asked) (command.Flow file) compares.says says)
 
     flow-no-ends : (c : Conclusion) → ShowsEnds g c text → ⊥
     flow-no-ends c shows = flow-is-no-search file shows.asked (one-command g.words (command.Flow file) (command.Explore shows.asked) says shows.asks.says)
@@ -315,6 +380,10 @@ runs-concluded (Followed end) call text d W prints says known =
     absurd (subst (λ (x : Command). RunsKnown x call.given W) (one-command call.given.words d _ says prints.0.compares.says) known)
 runs-concluded (Strays at) call text d W prints says known =
     absurd (subst (λ (x : Command). RunsKnown x call.given W) (one-command call.given.words d _ says prints.0.compares.says) known)
+runs-concluded (Belongs o) call text d W prints says known =
+    absurd (subst (λ (x : Command). RunsKnown x call.given W) (one-command call.given.words d _ says prints.0.compares.says) known)
+runs-concluded Differs call text d W prints says known =
+    absurd (subst (λ (x : Command). RunsKnown x call.given W) (one-command call.given.words d _ says prints.0.compares.says) known)
 runs-concluded Flows call text d W prints says known = absurd (subst (λ (x : Command). RunsKnown x call.given W) (one-command call.given.words d _ says prints.0.asks.says) known)
 runs-concluded NotConfluent call text d W prints says known = absurd (subst (λ (x : Command). RunsKnown x call.given W) (one-command call.given.words d _ says prints.0.asks.says) known)
 runs-concluded Undefined call text d W prints says known = absurd (subst (λ (x : Command). RunsKnown x call.given W) (one-command call.given.words d _ says prints.0.asks.says) known)
@@ -337,30 +406,19 @@ runs (Stopped (BadLine line (Workload f said))) c d W h says known within still 
     let named = h.cause.why.named in
     let same = one-command c.given.words named.command d named.says says in
     absurd (runs-not-refused c.given d named.file W line f known (ap workload_file (sym same) ∙ named.names) (refuses-also _ line f said.now h.cause.why.is))
-runs (Stopped (BadLine line (Journal said))) c d W h says known within still =
-    absurd (subst (λ (x : Command). RunsKnown x c.given W) (one-command c.given.words d _ says h.cause.why.1.says) known)
+runs (Stopped (BadLine line (Journal said))) c d W h says known within still = elim h.cause.why [
+  | inl journal ↦ absurd (subst (λ (x : Command). RunsKnown x c.given W) (one-command c.given.words d _ says journal.1.says) known)
+  | inr output ↦ absurd (subst (λ (x : Command). RunsKnown x c.given W) (one-command c.given.words d _ says output.1.says) known)
+]
 runs (Stopped (BadLine line (Lives said))) c d W h says known within still = absurd h.cause.why
 runs (Stopped CannotRead) c d W h says known within still = absurd (still.0 h.cause.why.1)
 runs (Stopped OutOfMemory) c d W h says known within still = inr refl
 runs CannotWrite c d W h says known within still = absurd (still.1 h.faults)
 
--- a journal is no run, if only its first events are one
-not-run : (W : Parts) (Z : Stored) (J : List Event) (at : ℕ) → IsRunUpTo W Z J at → IsStampedRun W Z J → ⊥
-not-run W Z J at is run =
-    let most : length J ≤ at = is.greatest (length J) (omega arith) (subst (IsStampedRun W Z) (sym (take_all (length J) J (omega arith))) run) in
-    let within : at < length J = is.within in
-    omega arith
-
 -- the verdict decides
 decided : (W : Parts) (Z : Stored) (J : List Event) (v : Verdict) → IsJudged W Z J v → Decides (number_of_conclusion (Judged v)) (IsStampedRun W Z J)
 decided W Z J verdict.Run is = inl (is, refl)
 decided W Z J (verdict.Bad at) is = inr (not-run W Z J at is, refl)
-
--- a journal that could go on has not ended
-not-ended : (W : Parts) (n : ℕ) (J : List Event) (o : Outcome) → EndsWith W n J None → EndsAs W n J o → ⊥
-not-ended W n J outcome.Finished goes ended = goes.0 ended.0
-not-ended W n J outcome.Stuck goes ended = goes.0 ended.0
-not-ended W n J (outcome.Budget s) goes ended = goes.1 s.0 ended.0
 
 -- and so does its end
 decided-end : (W : Parts) (Z : Stored) (n : ℕ) (J : List Event) (end : Option Outcome) → LeadsTo W Z n J end → Decides (number_of_conclusion (Ends end)) (IsStampedRun W Z J × HasEnded W n J)
@@ -404,6 +462,8 @@ module _ (c : Call) (w : CheckWords) (W : Parts) (J : List Event) (says : Says c
   checks-concluded (Ends end) text prints = judged-shown (Ends end) text prints.0
   checks-concluded (Followed end) text prints = judged-shown (Followed end) text prints.0
   checks-concluded (Strays at) text prints = judged-shown (Strays at) text prints.0
+  checks-concluded (Belongs o) text prints = absurd (no-output c.given c.keep c.journal text w says prints.0.workload (IsOutputOf prints.0.journal prints.0.report) prints.0.compares)
+  checks-concluded Differs text prints = absurd (no-output c.given c.keep c.journal text w says prints.0.workload (IsOutputOf prints.0.journal prints.0.report) prints.0.compares)
   checks-concluded Flows text prints = absurd (no-flow c.given c.keep c.journal text w says prints.0.workload prints.0.asks)
   checks-concluded NotConfluent text prints = absurd (no-flow c.given c.keep c.journal text w says prints.0.workload prints.0.asks)
   checks-concluded Undefined text prints = absurd (no-flow c.given c.keep c.journal text w says prints.0.workload prints.0.asks)
@@ -421,13 +481,81 @@ module _ (c : Call) (w : CheckWords) (W : Parts) (J : List Event) (says : Says c
       let named = h.cause.why.named in
       let same : named.file ≡ w.workload = some-is _ _ (sym named.names ∙ ap workload_file (one-command c.given.words named.command (command.Check w) named.says says)) in
       absurd (not-refused c.given w.workload W line f tells (subst (λ (n : Text). IfSome (c.given.file n) (λ bytes. Refuses bytes line f)) same (refuses-also _ line f said.now h.cause.why.is)))
-  checks (Stopped (BadLine line (Journal said))) h still =
-      absurd (not-bad c.given w.journal J line also (if-some _ (λ bytes. IsNoJournalSo bytes line said.now) (λ bytes. IsNoJournalAt bytes line) (λ bytes so. so.0)
-      (compared-journal c.given c.keep c.journal [] w says h.cause.why.0 (λ bytes. IsNoJournalSo bytes line said.now) h.cause.why.1).1))
+  checks (Stopped (BadLine line (Journal said))) h still = elim h.cause.why [
+    | inl journal ↦ absurd (not-bad c.given w.journal J line also (if-some _ (λ bytes. IsNoJournalSo bytes line said.now) (λ bytes. IsNoJournalAt bytes line) (λ bytes so. so.0)
+        (compared-journal c.given c.keep c.journal [] w says journal.0 (λ bytes. IsNoJournalSo bytes line said.now) journal.1).1))
+    | inr output ↦ absurd (no-output c.given c.keep c.journal [] w says output.0 (λ bytes. IsNoOutputSo bytes line said.now) output.1)
+  ]
   checks (Stopped (BadLine line (Lives said))) h still = absurd h.cause.why
   checks (Stopped CannotRead) h still = absurd (still.0 h.cause.why.1)
   checks (Stopped OutOfMemory) h still = inr refl
   checks CannotWrite h still = absurd (still.1 h.faults)
+
+-- the status says whether an output is that of a run
+module _ (c : Call) (w : OutputWords) (W : Parts) (bytes : Text) (steps : ℕ) (says : Says c.given.words (command.CheckOutput w)) (tells : Tells c.given w.workload (λ text. Reads text W))
+    (seen : c.given.file w.output ≡ Some bytes) (lets : LetsStreams (c.given.file w.workload) None steps) where
+  abbrev IsIts : Type 0
+  IsIts = IsRunOutput w.why W c.given.stored steps bytes
+
+  abbrev SaysSo : ℕ → Type 0
+  SaysSo n = (IsIts × (n ≡ 0)) ⊎ ((IsIts → ⊥) × ((n ≡ 1) ⊎ (n ≡ 3)))
+
+  output-shown : (k : Conclusion) (text : Text) → HasJudgedOutput c.given k text
+      → (J : List Event) × (report : Text) × IsOutputOf J report bytes × ShowsOutput w.why W c.given.stored steps J report k text
+  output-shown k text has =
+      let read = compared-output c.given c.keep c.journal [] w says has.workload (IsOutputOf has.journal has.report) has.compares in
+      let same : has.workload ≡ W = same-workload c.given w.workload W has.workload tells read.0 in
+      let asked : has.compares.asked ≡ w = same-output c.given c.keep c.journal [] w says has.workload (IsOutputOf has.journal has.report) has.compares in
+      let count : has.steps ≡ steps = same-number (c.given.file w.workload) tells.0 None has.steps steps tells.1 (subst (λ (x : OutputWords). LetsStreams (c.given.file x.workload) None has.steps) asked has.lets) lets in (
+        has.journal,
+        has.report,
+        of-observed (IsOutputOf has.journal has.report) (c.given.file w.output) bytes seen read.1,
+        subst (λ (m : ℕ). ShowsOutput w.why W c.given.stored m has.journal has.report k text) count
+            (subst (λ (V : Parts). ShowsOutput w.why V c.given.stored has.steps has.journal has.report k text) same
+            (subst (λ (x : OutputWords). ShowsOutput x.why has.workload c.given.stored has.steps has.journal has.report k text) asked has.shown)),
+      )
+
+  output-concluded : (k : Conclusion) (text : Text) → Prints c.given c.keep k c.journal text → SaysSo (number_of_conclusion k)
+  output-concluded (Ended o) text prints = absurd (output-no-run c.given c.keep c.journal text w says o prints)
+  output-concluded (Judged v) text prints = absurd (output-no-check c.given c.keep c.journal text w says prints.0.workload (IsTextOf prints.0.journal) prints.0.compares)
+  output-concluded (Ends end) text prints = absurd (output-no-check c.given c.keep c.journal text w says prints.0.workload (IsTextOf prints.0.journal) prints.0.compares)
+  output-concluded (Followed end) text prints = absurd (output-no-check c.given c.keep c.journal text w says prints.0.workload (IsTextOf prints.0.journal) prints.0.compares)
+  output-concluded (Strays at) text prints = absurd (output-no-check c.given c.keep c.journal text w says prints.0.workload (IsTextOf prints.0.journal) prints.0.compares)
+  output-concluded (Belongs o) text prints =
+      let shown = output-shown (Belongs o) text prints.0 in
+      inl (belongs-to w.why W c.given.stored steps bytes shown.0 shown.1 text o shown.2 shown.3, refl)
+  output-concluded Differs text prints =
+      let shown = output-shown Differs text prints.0 in
+      inr (λ run. no-difference w.why W c.given.stored steps bytes run shown.0 shown.1 shown.2 text shown.3, inl refl)
+  output-concluded Flows text prints = absurd (output-no-flow c.given c.keep c.journal text w says prints.0.workload prints.0.asks)
+  output-concluded NotConfluent text prints = absurd (output-no-flow c.given c.keep c.journal text w says prints.0.workload prints.0.asks)
+  output-concluded Undefined text prints = absurd (output-no-flow c.given c.keep c.journal text w says prints.0.workload prints.0.asks)
+  output-concluded Finishes text prints = absurd (output-no-ends c.given c.keep c.journal text w says Finishes prints.0)
+  output-concluded Sticks text prints = absurd (output-no-ends c.given c.keep c.journal text w says Sticks prints.0)
+  output-concluded GoesOn text prints = absurd (output-no-ends c.given c.keep c.journal text w says GoesOn prints.0)
+  output-concluded Unexplored text prints = absurd (output-no-ends c.given c.keep c.journal text w says Unexplored prints.0)
+  output-concluded Helps text prints = absurd (output-is-no-help w (one-command c.given.words (command.CheckOutput w) command.Help says prints.0))
+  output-concluded NamesVersion text prints = absurd (output-is-no-version w (one-command c.given.words (command.CheckOutput w) command.Version says prints.0))
+
+  outputs : (s : Status Conclusion) → Holds (program c) c.left s → IsStill c.left
+      → (IsIts × (number_of number_of_conclusion s ≡ 0)) ⊎ (((IsIts → ⊥) × ((number_of number_of_conclusion s ≡ 1) ⊎ (number_of number_of_conclusion s ≡ 3))) ⊎ (number_of number_of_conclusion s ≡ 7))
+  outputs (Concluded k) h still = elim (output-concluded k h.text h.prints) [ inl its ↦ inl its | inr none ↦ inr (inl none) ]
+  outputs (Stopped BadWords) h still = absurd (not-bad-words c.given _ says (output-asks-none c.given w says) h.cause.why)
+  outputs (Stopped (BadLine line (Workload f said))) h still =
+      let named = h.cause.why.named in
+      let same : named.file ≡ w.workload = some-is _ _ (sym named.names ∙ ap workload_file (one-command c.given.words named.command (command.CheckOutput w) named.says says)) in
+      absurd (not-refused c.given w.workload W line f tells (subst (λ (n : Text). IfSome (c.given.file n) (λ text. Refuses text line f)) same (refuses-also _ line f said.now h.cause.why.is)))
+  outputs (Stopped (BadLine line (Journal said))) h still = elim h.cause.why [
+    | inl journal ↦ absurd (output-no-check c.given c.keep c.journal [] w says journal.0 (λ text. IsNoJournalSo text line said.now) journal.1)
+    | inr output ↦
+        let bad = of-observed (λ text. IsNoOutputSo text line said.now) (c.given.file w.output) bytes seen
+        (compared-output c.given c.keep c.journal [] w says output.0 (λ text. IsNoOutputSo text line said.now) output.1).1 in
+        inr (inl (λ run. no-bad-line w.why W c.given.stored steps bytes run line said.now bad, inr refl))
+  ]
+  outputs (Stopped (BadLine line (Lives said))) h still = absurd h.cause.why
+  outputs (Stopped CannotRead) h still = absurd (still.0 h.cause.why.1)
+  outputs (Stopped OutOfMemory) h still = inr (inr refl)
+  outputs CannotWrite h still = absurd (still.1 h.faults)
 
 abbrev HasFlows : Functions → Parts → Type 0
 HasFlows R W = Confluent W × ((rows : List (List Piece)) × IsFlow W R rows)
@@ -439,6 +567,8 @@ module _ (c : Call) (file : Text) (W : Parts) (says : Says c.given.words (comman
   flow-concluded (Ends end) text prints = absurd (flow-no-check c.given c.keep c.journal text file says prints.0.workload (IsTextOf prints.0.journal) prints.0.compares)
   flow-concluded (Followed end) text prints = absurd (flow-no-check c.given c.keep c.journal text file says prints.0.workload (IsTextOf prints.0.journal) prints.0.compares)
   flow-concluded (Strays at) text prints = absurd (flow-no-check c.given c.keep c.journal text file says prints.0.workload (IsTextOf prints.0.journal) prints.0.compares)
+  flow-concluded (Belongs o) text prints = absurd (flow-no-output c.given c.keep c.journal text file says prints.0.workload (IsOutputOf prints.0.journal prints.0.report) prints.0.compares)
+  flow-concluded Differs text prints = absurd (flow-no-output c.given c.keep c.journal text file says prints.0.workload (IsOutputOf prints.0.journal prints.0.report) prints.0.compares)
   flow-concluded Flows text prints =
       let same = flow-asked c.given c.keep c.journal text file says W prints.0.workload tells prints.0.asks in
       inl (subst (HasFlows c.given.stored.returns) same (prints.0.confluent, (prints.0.rows, prints.0.flow)), refl)
@@ -462,7 +592,10 @@ module _ (c : Call) (file : Text) (W : Parts) (says : Says c.given.words (comman
       let named = h.cause.why.named in
       let same : named.file ≡ file = some-is _ _ (sym named.names ∙ ap workload_file (one-command c.given.words named.command (command.Flow file) named.says says)) in
       absurd (not-refused c.given file W line f tells (subst (λ (n : Text). IfSome (c.given.file n) (λ bytes. Refuses bytes line f)) same (refuses-also _ line f said.now h.cause.why.is)))
-  flows (Stopped (BadLine line (Journal said))) h still = absurd (flow-no-check c.given c.keep c.journal [] file says h.cause.why.0 (λ bytes. IsNoJournalSo bytes line said.now) h.cause.why.1)
+  flows (Stopped (BadLine line (Journal said))) h still = elim h.cause.why [
+    | inl journal ↦ absurd (flow-no-check c.given c.keep c.journal [] file says journal.0 (λ bytes. IsNoJournalSo bytes line said.now) journal.1)
+    | inr output ↦ absurd (flow-no-output c.given c.keep c.journal [] file says output.0 (λ bytes. IsNoOutputSo bytes line said.now) output.1)
+  ]
   flows (Stopped (BadLine line (Lives said))) h still = absurd h.cause.why
   flows (Stopped CannotRead) h still = absurd (still.0 h.cause.why.1)
   flows (Stopped OutOfMemory) h still = inr refl
@@ -491,6 +624,8 @@ module _ (c : Call) (d : Command) (W : Parts) (steps : ℕ) (two : 2 ≤ length 
   spends-concluded (Ends end) text prints = absurd (subst (λ (x : Command). RunsKnown x c.given W) (one-command c.given.words d _ says prints.0.compares.says) known)
   spends-concluded (Followed end) text prints = absurd (subst (λ (x : Command). RunsKnown x c.given W) (one-command c.given.words d _ says prints.0.compares.says) known)
   spends-concluded (Strays at) text prints = absurd (subst (λ (x : Command). RunsKnown x c.given W) (one-command c.given.words d _ says prints.0.compares.says) known)
+  spends-concluded (Belongs o) text prints = λ e. absurd (omega arith)
+  spends-concluded Differs text prints = λ e. absurd (omega arith)
   spends-concluded Flows text prints = λ e. absurd (omega arith)
   spends-concluded NotConfluent text prints = λ e. absurd (omega arith)
   spends-concluded Undefined text prints = λ e. absurd (omega arith)
@@ -542,7 +677,7 @@ refuses-words : (s : Status Conclusion) (c : Call) → Holds (program c) c.left 
 refuses-words (Concluded k) c h none = let said = printed-says c.given c.keep c.journal h.text k h.prints in absurd (none said.0 said.1)
 refuses-words (Stopped BadWords) c h none = inl refl
 refuses-words (Stopped (BadLine line (Workload f said))) c h none = absurd (none h.cause.why.named.command h.cause.why.named.says)
-refuses-words (Stopped (BadLine line (Journal said))) c h none = absurd (none _ h.cause.why.1.says)
+refuses-words (Stopped (BadLine line (Journal said))) c h none = elim h.cause.why [ inl journal ↦ absurd (none _ journal.1.says) | inr output ↦ absurd (none _ output.1.says) ]
 refuses-words (Stopped (BadLine line (Lives said))) c h none = absurd h.cause.why
 refuses-words (Stopped CannotRead) c h none = absurd (none h.cause.why.0.command h.cause.why.0.says)
 refuses-words (Stopped OutOfMemory) c h none = inr refl
@@ -564,6 +699,8 @@ none-concludes n high low (Ends (Some o)) = λ e. absurd (omega arith)
 none-concludes n high low (Followed None) = λ e. absurd (omega arith)
 none-concludes n high low (Followed (Some o)) = no-fault o n high
 none-concludes n high low (Strays at) = λ e. absurd (omega arith)
+none-concludes n high low (Belongs o) = λ e. absurd (omega arith)
+none-concludes n high low Differs = λ e. absurd (omega arith)
 none-concludes n high low Flows = λ e. absurd (omega arith)
 none-concludes n high low NotConfluent = λ e. absurd (omega arith)
 none-concludes n high low Undefined = λ e. absurd (omega arith)
@@ -575,13 +712,14 @@ none-concludes n high low Helps = λ e. absurd (omega arith)
 none-concludes n high low NamesVersion = λ e. absurd (omega arith)
 
 -- a call that ended with this exit status is answered
-pub answered : (n : ℕ) (c : Call) → 2 ≤ length c.given.stored.orders → EndsBy (program c) c.left n → MissesFiles n c → MissesJournals n c → RefusesSteps n c → (HasReadFault c.left → (n ≡ 5) ⊎ (n ≡ 7)) → IsAnswered n c
-answered n c two ends absent missing exceeds faulty = by ends.0 ends.1 ends.2 where
+pub answered : (n : ℕ) (c : Call) → 2 ≤ length c.given.stored.orders → EndsBy (program c) c.left n → MissesFiles n c → MissesJournals n c → MissesOutputs n c → RefusesSteps n c → (HasReadFault c.left → (n ≡ 5) ⊎ (n ≡ 7)) → IsAnswered n c
+answered n c two ends absent missing lost exceeds faulty = by ends.0 ends.1 ends.2 where
   by : (s : Status Conclusion) → n ≡ number_of number_of_conclusion s → Holds (program c) c.left s → IsAnswered n c
   by s is h = subst (λ m. IsAnswered m c) (sym is) (record {
     cause = (s, refl, h);
     complete = λ d W says known within still. runs s c d W h says known within still;
     checks = λ w W J says tells also still. checks c w W J says tells also s h still;
+    outputs = λ w W bytes steps says tells seen lets still. outputs c w W bytes steps says tells seen lets s h still;
     flows = λ file W says tells still. flows c file W says tells s h still;
     texts = λ d file says names tells within still. refuses s c d file h says names tells within still;
     journals = λ w W says tells also still. refuses-journal s c w h says also still;
@@ -591,6 +729,7 @@ answered n c two ends absent missing exceeds faulty = by ends.0 ends.1 ends.2 wh
     adds = λ units says. adds-up c units says s h;
     absent = subst (λ m. MissesFiles m c) is absent;
     missing = subst (λ m. MissesJournals m c) is missing;
+    lost = subst (λ m. MissesOutputs m c) is lost;
     reads = reads-well (program c) c.left (none-concludes 5 (omega arith) (omega arith)) (λ cause. cause.why.1) s h;
     faulty = subst (λ m. HasReadFault c.left → (m ≡ 5) ⊎ (m ≡ 7)) is faulty;
     writes = writes-well (program c) c.left (none-concludes 6 (omega arith) (omega arith)) s h;

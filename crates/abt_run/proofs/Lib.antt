@@ -1,7 +1,10 @@
 pub mod Adding
+pub mod Belonging
 pub mod Complete
 pub mod FlowWords
+pub mod Flowing
 pub mod Judging
+pub mod Lines
 pub mod Outputs
 pub mod Preparing
 pub mod Searching

@@ -14,7 +14,7 @@ use Rattle.abt_machine.specs.Texts.{journal_text, report_of, report_text, short_
 use Rattle.abt_machine.specs.Valid.{IsValid}
 use Rattle.abt_machine.specs.Words.{Text}
 use Rattle.abt_drain.specs.declared.run.Run.{Run}
-use Rattle.abt_drain.specs.Ends.{IsLeftOf, LeavesRun}
+use Rattle.abt_drain.specs.Ends.{IsLeftOf, LeavesRotation, LeavesRun}
 use Rattle.abt_drain.specs.Runs.{IsRunOf}
 use Rattle.abt_record.specs.Records.{IsKept}
 use Rattle.abt_report.specs.Pictures.{IsPictureOf, unit_in_row, units_in_rows}
@@ -118,8 +118,12 @@ module _ (W : Parts) (Z : Stored) (n : ℕ) (J : List Event) (o : Outcome) where
   run-ended (schedule.Seed seed) has = has.ended
 
 -- streams on threads take any turns
-pub by_threads : (W : Parts) (Z : Stored) (n : ℕ) (kept : Bool) (left : Run) → LeavesRun W Z n kept left → LeavesScheduled schedule.Threads W Z n kept left
-by_threads W Z n kept left is = record { events = is.events; holds = (is.holds, tt); kept = is.kept; pictured = is.pictured; counted = is.counted }
+pub by_threads : (W : Parts) (Z : Stored) (Answered : ℕ → ℕ → List ℕ → Type 0) (n : ℕ) (kept : Bool) (left : Run) → LeavesRun W Z Answered n kept left → LeavesScheduled schedule.Threads W Z n kept left
+by_threads W Z Answered n kept left is = record { events = is.events; holds = (is.holds.0, tt); kept = is.kept; pictured = is.pictured; counted = is.counted }
+
+-- in rotation they take them in order of number
+pub by_turns : (W : Parts) (Z : Stored) (Answered : ℕ → ℕ → List ℕ → Type 0) (n : ℕ) (kept : Bool) (left : Run) → LeavesRotation W Z Answered n kept left → LeavesScheduled schedule.InTurn W Z n kept left
+by_turns W Z Answered n kept left is = record { events = is.events; holds = (is.holds.0, is.holds.2); kept = is.kept; pictured = is.pictured; counted = is.counted }
 
 -- and those of a seeded run the turns of its seed, which are one run
 pub by_seed : (W : Parts) (Z : Stored) (seed n : ℕ) (kept : Bool) (scheduled : Scheduled) (left : Run) → IsValid W → OrdersStored W Z.orders → LeavesSeeded W Z seed n scheduled

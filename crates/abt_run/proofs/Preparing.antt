@@ -1,5 +1,5 @@
 -- From what is known of one file to what is known of a call.
-use Rattle.std.proofs.Common.{◌≡◌, ◌∙◌, ◌<◌, ◌≤◌, ℕ, List, length, map, Option, Some, None, inr, ap, refl, subst, sym, arith}
+use Rattle.std.proofs.Common.{◌≡◌, ◌∙◌, ◌<◌, ◌≤◌, ℕ, List, length, map, Option, Some, None, inl, inr, ap, refl, subst, sym, arith}
 use Rattle.std.specs.Prelude.{IfSome, ⊤}
 use Rattle.std.proofs.lemmas.List.{length-map}
 use Rattle.abt_machine.specs.declared.events.Event.{Event}
@@ -10,10 +10,12 @@ use Rattle.abt_generate.specs.Generated.{generated}
 use Rattle.abt_words.specs.declared.commands.CheckWords.{CheckWords}
 use Rattle.abt_words.specs.declared.commands.Command.{Command}
 use Rattle.abt_words.specs.declared.commands.Command.TheVariants as command
+use Rattle.abt_words.specs.declared.commands.OutputWords.{OutputWords}
 use Rattle.abt_words.specs.declared.commands.RunWords.{RunWords}
 use Rattle.abt_words.specs.Commands.{Says}
 use Rattle.abt_words.proofs.OneCommand.{one-command}
 use Rattle.abt_shell.specs.Fetched.{HasNoJournal, IsNoJournalLine}
+use Rattle.abt_shell.specs.Outputs.{HasNoOutput, IsNoOutputLine}
 use Rattle.abt_shell.specs.declared.status.Stop.{Stop}
 use Rattle.abt_shell.specs.declared.status.Wrong.{Wrong}
 use Rattle.abt_shell.specs.declared.status.Wrong.TheVariants.{Workload, Journal, Lives}
@@ -79,7 +81,18 @@ no-journal-stops s g w W told a b c says reads same first second =
     stops-file (IsBadCommand g) (NamesFile g.words) (IsNoJournalLine told) (IsBadLine g) (b, c) (a, c) (record { command = command.Check w; file = w.workload; says = says; names = refl }) bad (grew-later a b c first second) s where
       bad : (line : ℕ) (wrong : Wrong) → IsNoJournalLine told line wrong → IsBadLine g line wrong
       bad line (Workload f said) h = absurd h
-      bad line (Journal said) h = (W, record { asked = w; says = says; reads = reads; is = subst (λ (o : Option Text). IsNoJournalLine o line (Journal said)) same h })
+      bad line (Journal said) h = inl (W, record { asked = w; says = says; reads = reads; is = subst (λ (o : Option Text). IsNoJournalLine o line (Journal said)) same h })
+      bad line (Lives said) h = absurd h
+
+-- and so is why it has no output
+pub no-output-stops : (s : Stop) (g : Given) (w : OutputWords) (W : Parts) (a b c : ℕ) → Says g.words (command.CheckOutput w) → IsReadFrom g w.workload W
+    → a ≤ b → b ≤ c → HasNoOutput (g.file w.output) (b, c) s → StopsCommand g (a, c) s
+no-output-stops s g w W a b c says reads first second =
+    stops-file (IsBadCommand g) (NamesFile g.words) (IsNoOutputLine (g.file w.output)) (IsBadLine g) (b, c) (a, c) (record { command = command.CheckOutput w; file = w.workload; says = says; names = refl }) bad
+    (grew-later a b c first second) s where
+      bad : (line : ℕ) (wrong : Wrong) → IsNoOutputLine (g.file w.output) line wrong → IsBadLine g line wrong
+      bad line (Workload f said) h = absurd h
+      bad line (Journal said) h = inr (W, record { asked = w; says = says; reads = reads; is = h })
       bad line (Lives said) h = absurd h
 
 -- a workload that is made of a number has a unit

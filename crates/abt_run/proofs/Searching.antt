@@ -20,7 +20,7 @@ use Rattle.abt_run.specs.Given.{Given, IsReadFrom}
 use Rattle.abt_run.specs.Printed.{Prints}
 use Rattle.abt_run.specs.declared.keeping.Keep.{Keep}
 use Rattle.abt_run.specs.declared.status.Conclusion.{Conclusion}
-use Rattle.abt_run.specs.declared.status.Conclusion.TheVariants.{Ended, Judged, Ends, Followed, Strays, Flows, NotConfluent, Undefined, Finishes, Sticks, GoesOn, Unexplored, Helps, NamesVersion}
+use Rattle.abt_run.specs.declared.status.Conclusion.TheVariants.{Ended, Judged, Ends, Followed, Strays, Belongs, Differs, Flows, NotConfluent, Undefined, Finishes, Sticks, GoesOn, Unexplored, Helps, NamesVersion}
 
 -- Conclusions.
 
@@ -31,6 +31,8 @@ IsOnEnds (Judged v) = ⊥
 IsOnEnds (Ends o) = ⊥
 IsOnEnds (Followed o) = ⊥
 IsOnEnds (Strays at) = ⊥
+IsOnEnds (Belongs o) = ⊥
+IsOnEnds Differs = ⊥
 IsOnEnds Flows = ⊥
 IsOnEnds NotConfluent = ⊥
 IsOnEnds Undefined = ⊥
@@ -75,6 +77,8 @@ module _ (g : Given) (keep : Keep) (J : Option (List Event)) (none : J ≡ None)
   prints-ends (Ends o) text on shows = absurd on
   prints-ends (Followed o) text on shows = absurd on
   prints-ends (Strays at) text on shows = absurd on
+  prints-ends (Belongs o) text on shows = absurd on
+  prints-ends Differs text on shows = absurd on
   prints-ends Flows text on shows = absurd on
   prints-ends NotConfluent text on shows = absurd on
   prints-ends Undefined text on shows = absurd on

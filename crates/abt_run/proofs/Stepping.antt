@@ -17,6 +17,7 @@ use Rattle.abt_shell.proofs.Fetched.{of-observed, stops-more}
 use Rattle.abt_words.specs.declared.commands.CheckWords.{CheckWords}
 use Rattle.abt_words.specs.declared.commands.Command.{Command}
 use Rattle.abt_words.specs.declared.commands.Command.TheVariants as command
+use Rattle.abt_words.specs.declared.commands.OutputWords.{OutputWords}
 use Rattle.abt_words.specs.declared.commands.RunWords.{RunWords}
 use Rattle.abt_words.specs.Commands.{Says}
 use Rattle.abt_words.specs.Steps.{AsksTooMany, LetsMake, step_limit_of}
@@ -78,6 +79,7 @@ pub same-steps : (g : Given) (d : Command) (W : Parts) (m n : ℕ) → RunsKnown
 same-steps g (command.Run w) W m n known one two = same-number (g.file w.file) known.0 w.steps m n known.1 one two
 same-steps g (command.SelfRun units) W m n known one two = one ∙ sym two
 same-steps g (command.Check w) W m n known one two = absurd one
+same-steps g (command.CheckOutput w) W m n known one two = absurd one
 same-steps g (command.Flow file) W m n known one two = absurd one
 same-steps g (command.Explore w) W m n known one two = absurd one
 same-steps g command.Help W m n known one two = absurd one
@@ -99,11 +101,17 @@ exceeds-same file_of v w now same is known =
 run-is-no-check : (v : RunWords) (w : CheckWords) → command.Run v ≡ command.Check w → ⊥
 run-is-no-check v w e = cc
 
+run-is-no-output : (v : RunWords) (w : OutputWords) → command.Run v ≡ command.CheckOutput w → ⊥
+run-is-no-output v w e = cc
+
 run-is-no-flow : (v : RunWords) (f : Text) → command.Run v ≡ command.Flow f → ⊥
 run-is-no-flow v f e = cc
 
 pub check-asks-none : (g : Given) (w : CheckWords) → Says g.words (command.Check w) → AsksBeyond g → ⊥
 check-asks-none g w says beyond = run-is-no-check _ w (one-command g.words (command.Run beyond.asked) (command.Check w) beyond.says says)
+
+pub output-asks-none : (g : Given) (w : OutputWords) → Says g.words (command.CheckOutput w) → AsksBeyond g → ⊥
+output-asks-none g w says beyond = run-is-no-output _ w (one-command g.words (command.Run beyond.asked) (command.CheckOutput w) beyond.says says)
 
 pub flow-asks-none : (g : Given) (file : Text) → Says g.words (command.Flow file) → AsksBeyond g → ⊥
 flow-asks-none g file says beyond = run-is-no-flow _ file (one-command g.words (command.Run beyond.asked) (command.Flow file) beyond.says says)

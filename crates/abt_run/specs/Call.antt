@@ -1,11 +1,12 @@
 -- What each status says about what a call of the program left, and when it comes.
-use Rattle.std.specs.Prelude.{◌≡◌, ◌≢◌, ◌≤◌, ◌⊎◌, ℕ, List, Option, Some, None}
+use Rattle.std.specs.Prelude.{◌≡◌, ◌≢◌, ◌≤◌, ◌⊎◌, ◌++◌, ℕ, Bool, List, Option, Some, None, length}
 use Rattle.abt_machine.specs.declared.events.Event.{Event}
 use Rattle.abt_machine.specs.declared.events.Outcome.{Outcome}
 use Rattle.abt_machine.specs.declared.events.Piece.{Piece}
 use Rattle.abt_machine.specs.declared.workload.Parts.{Parts}
 use Rattle.abt_machine.specs.Grammar.{Reads}
 use Rattle.abt_machine.specs.Outcomes.{EndsAs}
+use Rattle.abt_machine.specs.Runs.{last_state}
 use Rattle.abt_machine.specs.Stored.{Stored}
 use Rattle.abt_machine.specs.Words.{Text}
 use Rattle.abt_bounds.specs.Laws.{HasNoRevive, ops_in}
@@ -14,7 +15,7 @@ use Rattle.abt_drain.specs.Looks.{EndsWith}
 use Rattle.abt_flow.specs.Confluent.{Confluent}
 use Rattle.abt_flow.specs.Flow.{IsFlow}
 use Rattle.abt_generate.specs.Generated.{generated}
-use Rattle.abt_report.specs.Journals.{IsTextOf}
+use Rattle.abt_report.specs.Journals.{IsTextOf, journal_limit}
 use Rattle.abt_shell.specs.Calls.{EndsBy, HasReadFault, IsStill, Left, Program}
 use Rattle.abt_shell.specs.More.{Adds}
 use Rattle.abt_shell.specs.Told.{Grew}
@@ -22,13 +23,14 @@ use Rattle.abt_shell.specs.declared.status.Stop.{Stop}
 use Rattle.abt_words.specs.declared.commands.CheckWords.{CheckWords}
 use Rattle.abt_words.specs.declared.commands.Command.{Command}
 use Rattle.abt_words.specs.declared.commands.Command.TheVariants as command
+use Rattle.abt_words.specs.declared.commands.OutputWords.{OutputWords}
 use Rattle.abt_words.specs.declared.commands.RunWords.{RunWords}
 use Rattle.abt_words.specs.declared.commands.Shows.{Shows}
 use Rattle.abt_words.specs.declared.commands.Shows.TheVariants as show
 use Rattle.abt_words.specs.Commands.{Says}
 use Rattle.abt_run.specs.Given.{Given, IsNamed, SaysNothing, Tells, workload_file}
 use Rattle.abt_run.specs.Prepared.{StopsCommand}
-use Rattle.abt_run.specs.Printed.{Prints}
+use Rattle.abt_run.specs.Printed.{LeadsTo, Prints, followed_text}
 use Rattle.abt_run.specs.SelfAdds.{SelfAdds}
 use Rattle.abt_run.specs.Status.{name, number_of_conclusion, number_of_end, usage_of}
 use Rattle.abt_run.specs.Steps.{AsksBeyond, ExceedsKnown, LetsStreams, MayMake}
@@ -68,6 +70,7 @@ abbrev pub RunsKnown : Command → Given → Parts → Type 0
 RunsKnown (command.Run w) g W = Tells g w.file (λ bytes. Reads bytes W)
 RunsKnown (command.SelfRun units) g W = W ≡ generated units
 RunsKnown (command.Check w) g W = ⊥
+RunsKnown (command.CheckOutput w) g W = ⊥
 RunsKnown (command.Flow file) g W = ⊥
 RunsKnown (command.Explore w) g W = ⊥
 RunsKnown command.Help g W = ⊥
@@ -106,6 +109,24 @@ ChecksJournals n c = (w : CheckWords) (W : Parts) (J : List Event) → Says c.gi
     → Tells c.given w.workload (λ bytes. Reads bytes W) → Tells c.given w.journal (IsTextOf J) → IsStill c.left
     → JudgesBy w.shows n (c.given.file w.workload) W c.given.stored J ⊎ (n ≡ 7)
 
+-- the bytes are the output of a run of W that ended, whose streams may make n steps each: the text of its journal, and then its report, with
+-- what units wait for or not
+pub record IsRunOutput (why : Bool) (W : Parts) (Z : Stored) (n : ℕ) (bytes : Text) : Type 0 where
+  pub journal : List Event
+  pub front : Text
+  pub text : IsTextOf journal front
+  pub outcome : Outcome
+  pub leads : LeadsTo W Z n journal (Some outcome)
+  pub whole : front ++ followed_text W (last_state W journal) journal (Some outcome) why ≡ bytes
+  pub short : length bytes ≤ journal_limit
+
+-- if a workload and the bytes of an output are known, and no fault comes, the status is 0 if they are the output of a run, and 1 or, if no
+-- journal stands before the report, 3 if they are not
+abbrev pub ChecksOutputs : ℕ → Call → Type 0
+ChecksOutputs n c = (w : OutputWords) (W : Parts) (bytes : Text) (steps : ℕ) → Says c.given.words (command.CheckOutput w)
+    → Tells c.given w.workload (λ text. Reads text W) → c.given.file w.output ≡ Some bytes → LetsStreams (c.given.file w.workload) None steps → IsStill c.left
+    → (IsRunOutput w.why W c.given.stored steps bytes × (n ≡ 0)) ⊎ (((IsRunOutput w.why W c.given.stored steps bytes → ⊥) × ((n ≡ 1) ⊎ (n ≡ 3))) ⊎ (n ≡ 7))
+
 -- if a workload is known, and no fault comes, the status says whether it is confluent and has a flow
 abbrev pub FindsFlows : ℕ → Call → Type 0
 FindsFlows n c = (file : Text) (W : Parts) → Says c.given.words (command.Flow file) → Tells c.given file (λ bytes. Reads bytes W) → IsStill c.left
@@ -131,6 +152,11 @@ abbrev pub MissesJournals : ℕ → Call → Type 0
 MissesJournals n c = (w : CheckWords) (W : Parts) → Says c.given.words (command.Check w) → Tells c.given w.workload (λ bytes. Reads bytes W)
     → c.absent w.journal → (n ≡ 5) ⊎ (n ≡ 7)
 
+-- nor can an output
+abbrev pub MissesOutputs : ℕ → Call → Type 0
+MissesOutputs n c = (w : OutputWords) (W : Parts) → Says c.given.words (command.CheckOutput w) → Tells c.given w.workload (λ bytes. Reads bytes W)
+    → c.absent w.output → (n ≡ 5) ⊎ (n ≡ 7)
+
 -- if the words are not a command, they are refused
 abbrev pub RefusesWords : ℕ → Call → Type 0
 RefusesWords n c = SaysNothing c.given.words → (n ≡ 2) ⊎ (n ≡ 7)
@@ -154,6 +180,7 @@ pub record IsAnswered (n : ℕ) (c : Call) : Type 0 where
   pub cause : EndsBy (program c) c.left n
   pub complete : IsComplete n c
   pub checks : ChecksJournals n c
+  pub outputs : ChecksOutputs n c
   pub flows : FindsFlows n c
   pub texts : RefusesTexts n c
   pub journals : RefusesJournals n c
@@ -163,6 +190,7 @@ pub record IsAnswered (n : ℕ) (c : Call) : Type 0 where
   pub adds : AddsUp n c
   pub absent : MissesFiles n c
   pub missing : MissesJournals n c
+  pub lost : MissesOutputs n c
   pub reads : (Grew c.left.read_faults → ⊥) → n ≢ 5
   pub faulty : HasReadFault c.left → (n ≡ 5) ⊎ (n ≡ 7)
   pub writes : (Grew c.left.out_faults → ⊥) → n ≢ 6

@@ -7,6 +7,7 @@ use Rattle.abt_machine.specs.Words.{Text}
 use Rattle.abt_words.specs.declared.commands.CheckWords.{CheckWords}
 use Rattle.abt_words.specs.declared.commands.Command.{Command}
 use Rattle.abt_words.specs.declared.commands.Command.TheVariants as command
+use Rattle.abt_words.specs.declared.commands.OutputWords.{OutputWords}
 use Rattle.abt_words.specs.Commands.{Says}
 
 -- the words, the stored orders and functions, and the bytes of each file, if they are observable
@@ -29,6 +30,7 @@ abbrev pub workload_file : Command → Option Text
 workload_file (command.Run w) = Some w.file
 workload_file (command.SelfRun units) = None
 workload_file (command.Check w) = Some w.workload
+workload_file (command.CheckOutput w) = Some w.workload
 workload_file (command.Flow file) = Some file
 workload_file (command.Explore w) = Some w.file
 workload_file command.Help = None
@@ -46,6 +48,7 @@ abbrev pub IsFileOf : Command → Text → Type 0
 IsFileOf (command.Run w) file = file ≡ w.file
 IsFileOf (command.SelfRun units) file = ⊥
 IsFileOf (command.Check w) file = (file ≡ w.workload) ⊎ (file ≡ w.journal)
+IsFileOf (command.CheckOutput w) file = (file ≡ w.workload) ⊎ (file ≡ w.output)
 IsFileOf (command.Flow flow) file = file ≡ flow
 IsFileOf (command.Explore w) file = file ≡ w.file
 IsFileOf command.Help file = ⊥
@@ -74,3 +77,10 @@ pub record Compares (g : Given) (W : Parts) (Is : Text → Type 0) : Type 0 wher
   pub says : Says g.words (command.Check asked)
   pub reads : IsReadFrom g asked.workload W
   pub is : IfSome (g.file asked.journal) Is
+
+-- and this is the same of an output
+pub record ComparesOutput (g : Given) (W : Parts) (Is : Text → Type 0) : Type 0 where
+  pub asked : OutputWords
+  pub says : Says g.words (command.CheckOutput asked)
+  pub reads : IsReadFrom g asked.workload W
+  pub is : IfSome (g.file asked.output) Is

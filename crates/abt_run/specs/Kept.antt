@@ -14,6 +14,7 @@ abbrev pub needs_journal : Command → Bool
 needs_journal (command.Run w) = either w.journal w.why
 needs_journal (command.SelfRun units) = false
 needs_journal (command.Check w) = false
+needs_journal (command.CheckOutput w) = false
 needs_journal (command.Flow file) = false
 needs_journal (command.Explore w) = false
 needs_journal command.Help = false

@@ -1,4 +1,5 @@
 pub mod Call
+pub mod Differing
 pub mod Ends
 pub mod Given
 pub mod Kept

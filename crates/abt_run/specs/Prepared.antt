@@ -3,18 +3,19 @@ use Rattle.std.specs.Prelude.{ℕ, ◌≡◌, ◌⊎◌, ⊤, Option, IfSome}
 use Rattle.abt_machine.specs.declared.workload.Parts.{Parts}
 use Rattle.abt_machine.specs.Words.{Text}
 use Rattle.abt_shell.specs.Fetched.{HasNot, IsNoJournalSo, StopsFor}
+use Rattle.abt_shell.specs.Outputs.{IsNoOutputSo}
 use Rattle.abt_shell.specs.declared.status.Stop.{Stop}
 use Rattle.abt_shell.specs.declared.status.Stop.TheVariants.{CannotRead}
 use Rattle.abt_shell.specs.declared.status.Wrong.{Wrong}
 use Rattle.abt_shell.specs.declared.status.Wrong.TheVariants.{Workload, Journal, Lives}
 use Rattle.abt_workload.specs.Hints.{RefusesSo}
-use Rattle.abt_run.specs.Given.{Compares, Given, NamesFile, NamesSuch, SaysNothing}
+use Rattle.abt_run.specs.Given.{Compares, ComparesOutput, Given, NamesFile, NamesSuch, SaysNothing}
 use Rattle.abt_run.specs.Steps.{AsksBeyond, Exceeds}
 
 -- a line of a file that the words name has this wrong
 abbrev pub IsBadLine : Given → ℕ → Wrong → Type 0
 IsBadLine g line (Workload f said) = NamesSuch g (λ bytes. RefusesSo bytes line f said.now)
-IsBadLine g line (Journal said) = (W : Parts) × Compares g W (λ bytes. IsNoJournalSo bytes line said.now)
+IsBadLine g line (Journal said) = ((W : Parts) × Compares g W (λ bytes. IsNoJournalSo bytes line said.now)) ⊎ ((W : Parts) × ComparesOutput g W (λ bytes. IsNoOutputSo bytes line said.now))
 IsBadLine g line (Lives said) = ⊥
 
 -- the words are not a command, or ask for more steps than a file allows

@@ -1,5 +1,5 @@
 -- What the command of a call prints, by what it came to.
-use Rattle.std.specs.Prelude.{◌≡◌, ◌<◌, ◌+◌, ◌^◌, ℕ, suc, ◌++◌, ◌∷◌, ◌⊎◌, if◌then◌else◌, Bool, true, List, [], Option, Some, None, codes, decimal}
+use Rattle.std.specs.Prelude.{◌≡◌, ◌+◌, ℕ, suc, ◌++◌, ◌∷◌, ◌⊎◌, if◌then◌else◌, Bool, true, List, [], Option, Some, None, codes, decimal, length}
 use Rattle.abt_machine.specs.declared.events.Event.{Event}
 use Rattle.abt_machine.specs.declared.events.Outcome.{Outcome}
 use Rattle.abt_machine.specs.declared.events.Piece.{Piece}
@@ -31,6 +31,7 @@ use Rattle.abt_record.specs.Records.{IsKept}
 use Rattle.abt_report.specs.Outputs.{outputs_text}
 use Rattle.abt_report.specs.Pictures.{IsPictureOf}
 use Rattle.abt_schedule.specs.Seeds.{IsSeeded}
+use Rattle.abt_shell.specs.Outputs.{IsOutputOf}
 use Rattle.abt_sizes.specs.Laws.{IsSmall}
 use Rattle.abt_why.specs.Texts.{why_text}
 use Rattle.abt_words.specs.declared.commands.Command.{Command}
@@ -43,13 +44,14 @@ use Rattle.abt_words.specs.Commands.{Says}
 use Rattle.abt_words.specs.declared.versions.Program.TheVariants as program_of
 use Rattle.abt_words.specs.Versions.{version_text}
 use Rattle.abt_run.specs.Ends.{ShowsEnds}
-use Rattle.abt_run.specs.Given.{Compares, Given, IsReadFrom}
+use Rattle.abt_run.specs.Differing.{DifferAfter, expected_text, first_line, quoted}
+use Rattle.abt_run.specs.Given.{Compares, ComparesOutput, Given, IsReadFrom}
 use Rattle.abt_run.specs.Kept.{keeps, needs_journal}
 use Rattle.abt_run.specs.Status.{help_text}
 use Rattle.abt_run.specs.Steps.{LetsStreams, MayMake}
 use Rattle.abt_run.specs.declared.keeping.Keep.{Keep}
 use Rattle.abt_run.specs.declared.status.Conclusion.{Conclusion}
-use Rattle.abt_run.specs.declared.status.Conclusion.TheVariants.{Ended, Judged, Ends, Followed, Strays, Flows, NotConfluent, Undefined, Finishes, Sticks, GoesOn, Unexplored, Helps, NamesVersion}
+use Rattle.abt_run.specs.declared.status.Conclusion.TheVariants.{Ended, Judged, Ends, Followed, Strays, Belongs, Differs, Flows, NotConfluent, Undefined, Finishes, Sticks, GoesOn, Unexplored, Helps, NamesVersion}
 
 -- Runs.
 
@@ -58,6 +60,7 @@ abbrev pub IsFor : Command → Given → Parts → Type 0
 IsFor (command.Run w) g W = IsReadFrom g w.file W
 IsFor (command.SelfRun units) g W = W ≡ generated units
 IsFor (command.Check w) g W = ⊥
+IsFor (command.CheckOutput w) g W = ⊥
 IsFor (command.Flow file) g W = ⊥
 IsFor (command.Explore w) g W = ⊥
 IsFor command.Help g W = ⊥
@@ -89,6 +92,7 @@ abbrev pub schedule_of : Command → Schedule
 schedule_of (command.Run w) = w.schedule
 schedule_of (command.SelfRun units) = schedule.Threads
 schedule_of (command.Check w) = schedule.Threads
+schedule_of (command.CheckOutput w) = schedule.Threads
 schedule_of (command.Flow file) = schedule.Threads
 schedule_of (command.Explore w) = schedule.Threads
 schedule_of command.Help = schedule.Threads
@@ -100,6 +104,7 @@ abbrev pub output_text : Parts → State → List Event → Outcome → Command 
 output_text W S J o (command.Run w) = ((if w.journal then journal_text J else []) ++ report_text W S (steps_in J) o) ++ (if w.why then why_text W S else [])
 output_text W S J o (command.SelfRun units) = short_text W S (steps_in J) o
 output_text W S J o (command.Check w) = []
+output_text W S J o (command.CheckOutput w) = []
 output_text W S J o (command.Flow file) = []
 output_text W S J o (command.Explore w) = []
 output_text W S J o command.Help = []
@@ -174,6 +179,32 @@ pub record HasJudged (g : Given) (c : Conclusion) (text : Text) : Type 0 where
   pub lets : LetsStreams (g.file compares.asked.workload) None steps
   pub shown : ShowsJudged compares.asked.shows workload g.stored steps journal c text
 
+-- Outputs.
+
+-- the report that follows the journal of a run that ended so is compared with the one that is wanted
+abbrev pub ComparesReports : Text → List Event → Text → Outcome → Conclusion → Text → Type 0
+ComparesReports wanted J report o c text =
+    ((c ≡ Belongs o) × (report ≡ wanted) × (text ≡ end_text (Some o)))
+    ⊎ ((c ≡ Differs) × ((l : ℕ) × (expected found : Text) × DifferAfter l wanted report expected found × (text ≡ expected_text (suc (length J + l)) (quoted expected) found)))
+
+-- what is shown of an output of W, which has this journal and then this report, if streams may make n steps each: where the journal is no
+-- run; or the line at which it could go on; or that the report is the one that `run` prints, or how it differs
+abbrev pub ShowsOutput : Bool → Parts → Stored → ℕ → List Event → Text → Conclusion → Text → Type 0
+ShowsOutput why W Z n J report c text =
+    ((at : ℕ) × (c ≡ Differs) × IsRunUpTo W Z J at × (text ≡ verdict_text (verdict.Bad at)))
+    ⊎ (((c ≡ Differs) × LeadsTo W Z n J None × (text ≡ expected_text (suc (length J)) (codes "an event") (first_line report)))
+    ⊎ ((o : Outcome) × LeadsTo W Z n J (Some o) × ComparesReports (followed_text W (last_state W J) J (Some o) why) J report o c text))
+
+-- this is shown of the output that the words name
+pub record HasJudgedOutput (g : Given) (c : Conclusion) (text : Text) : Type 0 where
+  pub workload : Parts
+  pub journal : List Event
+  pub report : Text
+  pub compares : ComparesOutput g workload (IsOutputOf journal report)
+  pub steps : ℕ
+  pub lets : LetsStreams (g.file compares.asked.workload) None steps
+  pub shown : ShowsOutput compares.asked.why workload g.stored steps journal report c text
+
 -- Flows.
 
 -- the words ask for the flow of W
@@ -228,6 +259,8 @@ Prints g keep (Judged v) answered text = HasJudged g (Judged v) text × (answere
 Prints g keep (Ends end) answered text = HasJudged g (Ends end) text × (answered ≡ None)
 Prints g keep (Followed end) answered text = HasJudged g (Followed end) text × (answered ≡ None)
 Prints g keep (Strays at) answered text = HasJudged g (Strays at) text × (answered ≡ None)
+Prints g keep (Belongs o) answered text = HasJudgedOutput g (Belongs o) text × (answered ≡ None)
+Prints g keep Differs answered text = HasJudgedOutput g Differs text × (answered ≡ None)
 Prints g keep Flows answered text = HasFlow g text × (answered ≡ None)
 Prints g keep NotConfluent answered text = IsNotConfluent g text × (answered ≡ None)
 Prints g keep Undefined answered text = HasNoFlow g × (text ≡ codes "undefined\n") × (answered ≡ None)

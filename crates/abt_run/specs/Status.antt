@@ -6,7 +6,7 @@ use Rattle.abt_machine.specs.Words.{Text}
 use Rattle.abt_check.specs.declared.verdict.Verdict.TheVariants as verdict
 use Rattle.abt_shell.specs.Status.{number_of_outcome}
 use Rattle.abt_run.specs.declared.status.Conclusion.{Conclusion}
-use Rattle.abt_run.specs.declared.status.Conclusion.TheVariants.{Ended, Judged, Ends, Followed, Strays, Flows, NotConfluent, Undefined, Finishes, Sticks, GoesOn, Unexplored, Helps, NamesVersion}
+use Rattle.abt_run.specs.declared.status.Conclusion.TheVariants.{Ended, Judged, Ends, Followed, Strays, Belongs, Differs, Flows, NotConfluent, Undefined, Finishes, Sticks, GoesOn, Unexplored, Helps, NamesVersion}
 
 abbrev pub name : Text
 name = codes "abtrun"
@@ -20,7 +20,7 @@ abbrev pub self_usage : Text
 self_usage = codes "abtrun self N\n"
 
 abbrev pub check_usage : Text
-check_usage = codes "abtrun check WORKLOAD JOURNAL [--end]\n"
+check_usage = codes "abtrun check WORKLOAD JOURNAL [--end]\nabtrun check WORKLOAD OUTPUT --report [--why]\n"
 
 abbrev pub flow_usage : Text
 flow_usage = codes "abtrun flow FILE\n"
@@ -68,6 +68,8 @@ number_of_conclusion (Ends None) = 1
 number_of_conclusion (Ends (Some o)) = 0
 number_of_conclusion (Followed end) = number_of_end end
 number_of_conclusion (Strays at) = 3
+number_of_conclusion (Belongs o) = 0
+number_of_conclusion Differs = 1
 number_of_conclusion Flows = 0
 number_of_conclusion NotConfluent = 1
 number_of_conclusion Undefined = 1

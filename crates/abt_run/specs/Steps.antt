@@ -51,6 +51,7 @@ abbrev pub MayMake : Command → Given → ℕ → Type 0
 MayMake (command.Run w) g n = LetsStreams (g.file w.file) w.steps n
 MayMake (command.SelfRun units) g n = n ≡ default_steps
 MayMake (command.Check w) g n = ⊥
+MayMake (command.CheckOutput w) g n = ⊥
 MayMake (command.Flow file) g n = ⊥
 MayMake (command.Explore w) g n = ⊥
 MayMake command.Help g n = ⊥

@@ -1,6 +1,6 @@
 //! The command `check`.
 
-ghost use Rattle.std.specs.Prelude.{◌≡◌, ◌≢◌, ◌≤◌, ◌⊎◌, ◌++◌, ℕ, IfErr, IfOk, IfSome, IsErrAnd, IsErrOf, All, List, None, OnOk, false, length, true};
+ghost use Rattle.std.specs.Prelude.{◌≡◌, ◌≢◌, ◌≤◌, ◌⊎◌, ◌++◌, ℕ, IfErr, IfOk, IfSome, IsErrAnd, IsErrOf, All, List, None, OnOk, false, length, true, Option};
 ghost use Rattle.abt_machine.specs.Grammar.{Reads};
 ghost use Rattle.abt_machine.specs.declared.events.Event.{Event};
 ghost use Rattle.abt_machine.specs.Limits.{function_limit};
@@ -8,6 +8,7 @@ ghost use Rattle.abt_machine.specs.Runs.{Run as IsRun, last_state};
 ghost use Rattle.abt_machine.specs.Stored.{CallsStored};
 ghost use Rattle.abt_machine.specs.Words.{Text, line_of};
 ghost use Rattle.abt_order.specs.Stored.{stored_of};
+ghost use Rattle.abt_source.specs.Seen.{Agree, Grows};
 ghost use Rattle.abt_words.specs.Commands.{Says};
 ghost use Rattle.abt_words.specs.declared.commands.Command.TheVariants as command;
 ghost use Rattle.abt_check.specs.declared.verdict.Verdict.TheVariants as verdict;
@@ -51,12 +52,15 @@ pub(crate) fn prepare_check<F: Files, P: Work>(
 ) -> Result<Prepared, Stop>
     requires orders { 2 ≤ length orders.now }
     requires calls { function_limit ≤ P.count work.now }
-    ensures done { (keep : Keep) (words : List Text) → Says words (command.Check (record { workload = workload.now; journal = journal.now; shows = shows }))
-        → IfOk result (λ p. Prints (given words (stored_of orders.now (P.returns work.now)) (λ name. F.file files.old name)) keep p.conclusion p.journal p.text.items) }
-    ensures stop { (words : List Text) → Says words (command.Check (record { workload = workload.now; journal = journal.now; shows = shows }))
-        → IfErr result (StopsCommand (given words (stored_of orders.now (P.returns work.now)) (λ name. F.file files.old name)) (F.faults files.old, F.faults files.new)) }
+    ensures done { (file_of : Text → Option Text) → Agree (F.seen files.old) (F.seen files.new) file_of
+        → (keep : Keep) (words : List Text) → Says words (command.Check (record { workload = workload.now; journal = journal.now; shows = shows }))
+        → IfOk result (λ p. Prints (given words (stored_of orders.now (P.returns work.now)) file_of) keep p.conclusion p.journal p.text.items) }
+    ensures stop { (file_of : Text → Option Text) → Agree (F.seen files.old) (F.seen files.new) file_of
+        → (words : List Text) → Says words (command.Check (record { workload = workload.now; journal = journal.now; shows = shows }))
+        → IfErr result (StopsCommand (given words (stored_of orders.now (P.returns work.now)) file_of) (F.faults files.old, F.faults files.new)) }
     ensures absent { F.absent files.old workload.now → IsErrOf result CannotRead }
-    ensures missing { F.absent files.old journal.now → IsErrAnd result (LacksSecond (F.file files.old workload.now) (F.faults files.old, F.faults files.new)) }
+    ensures missing { (file_of : Text → Option Text) → Agree (F.seen files.old) (F.seen files.new) file_of
+        → F.absent files.old journal.now → IsErrAnd result (LacksSecond (file_of workload.now) (F.faults files.old, F.faults files.new)) }
     ensures faulty { F.faults files.new ≢ F.faults files.old → IsErrOf result CannotRead }
     ensures begun { IfSome (F.begun files.new) (λ name. (name ≡ workload.now) ⊎ (name ≡ journal.now)) }
     ensures later { F.faults files.old ≤ F.faults files.new }
@@ -68,18 +72,21 @@ pub(crate) fn prepare_check<F: Files, P: Work>(
     Ok(without_run(text, conclusion))
 }
 
-// The workload of a file, and how many steps each of its streams may make, if the words ask for none.
-fn fetch_default<F: Files>(
+/// The workload of a file, and how many steps each of its streams may make, if the words ask for none.
+pub(crate) fn fetch_default<F: Files>(
     alloc: Global,
     file: &str,
     files: &mut F,
 ) -> Result<(Workload, u64), Stop>
-    ensures reads { IfOk result (λ found. IfSome (F.file files.old file.now) (λ bytes. Reads bytes found.0)) }
-    ensures steps { IfOk result (λ found. LetsStreams (F.file files.old file.now) None found.1) }
-    ensures stop { IfErr result (HasNoWorkload (F.file files.old file.now) (F.faults files.old, F.faults files.new)) }
+    ensures reads { (file_of : Text → Option Text) → Agree (F.seen files.old) (F.seen files.new) file_of
+        → IfOk result (λ found. IfSome (file_of file.now) (λ bytes. Reads bytes found.0)) }
+    ensures steps { (file_of : Text → Option Text) → Agree (F.seen files.old) (F.seen files.new) file_of
+        → IfOk result (λ found. LetsStreams (file_of file.now) None found.1) }
+    ensures stop { (file_of : Text → Option Text) → Agree (F.seen files.old) (F.seen files.new) file_of
+        → IfErr result (HasNoWorkload (file_of file.now) (F.faults files.old, F.faults files.new)) }
     ensures absent { F.absent files.old file.now → IsErrOf result CannotRead }
     ensures faulty { F.faults files.new ≢ F.faults files.old → IsErrOf result CannotRead }
-    ensures same { (name : List ℕ) → F.file files.new name ≡ F.file files.old name }
+    ensures grows { Grows (F.seen files.old) (F.seen files.new) }
     ensures missing { (name : List ℕ) → F.absent files.old name → F.absent files.new name }
     ensures begun { IfSome (F.begun files.new) (λ name. name ≡ file.now) }
     ensures later { F.faults files.old ≤ F.faults files.new }
@@ -177,8 +184,8 @@ fn report_shown<P: Work>(
     }
 }
 
-// The report of what a journal left, or that it could go on, and what units wait for, if that is asked for.
-fn followed_text<P: Work>(
+/// The report of what a journal left, or that it could go on, and what units wait for, if that is asked for.
+pub(crate) fn followed_text<P: Work>(
     alloc: Global,
     w: &Workload,
     orders: &[StoredOrder],
@@ -234,8 +241,8 @@ fn report_or_open(alloc: Global, w: &Workload, left: &Left) -> Result<Vec<u8>, W
     Ok(text)
 }
 
-// That a journal is a run, and how it ends.
-fn end_line_of(alloc: Global, end: Option<Outcome>) -> Result<Vec<u8>, Want>
+/// That a journal is a run, and how it ends.
+pub(crate) fn end_line_of(alloc: Global, end: Option<Outcome>) -> Result<Vec<u8>, Want>
     ensures { IfOk result (λ text. text.items ≡ end_text end) }
 {
     let mut text = Vec::from_slice(alloc, b"run\n")?;
@@ -270,8 +277,8 @@ fn text_of(alloc: Global, verdict: Verdict) -> Result<Vec<u8>, Want>
     }
 }
 
-// What is printed for a journal of which only the first events, this many, are a run.
-fn bad_line(alloc: Global, at: u64) -> Result<Vec<u8>, Want>
+/// What is printed for a journal of which only the first events, this many, are a run.
+pub(crate) fn bad_line(alloc: Global, at: u64) -> Result<Vec<u8>, Want>
     ensures { IfOk result (λ text. text.items ≡ verdict_text (verdict.Bad at)) }
 {
     let Some(line) = at.checked_add(1) else {

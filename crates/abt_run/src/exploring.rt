@@ -1,11 +1,12 @@
 //! The command `explore`.
 
-ghost use Rattle.std.specs.Prelude.{◌≡◌, ◌≢◌, ◌≤◌, [], ◌∷◌, All, IfErr, IfOk, IfSome, IsErrOf, List, codes, decimal, length, option_map};
+ghost use Rattle.std.specs.Prelude.{◌≡◌, ◌≢◌, ◌≤◌, [], ◌∷◌, All, IfErr, IfOk, IfSome, IsErrOf, List, Option, codes, decimal, length, option_map};
 ghost use Rattle.std.specs.List.{list_any};
 ghost use Rattle.abt_explore.specs.Texts.{SaysWords};
 ghost use Rattle.abt_machine.specs.Limits.{function_limit};
 ghost use Rattle.abt_machine.specs.Words.{Text, ended, line_of};
 ghost use Rattle.abt_order.specs.Stored.{stored_of};
+ghost use Rattle.abt_source.specs.Seen.{Agree};
 ghost use Rattle.abt_words.specs.Commands.{Says};
 ghost use Rattle.abt_words.specs.declared.commands.Command.TheVariants as command;
 ghost use Rattle.abt_run.specs.Ends.{FoundSays, any_word_text, changing_text, conclusion_on, concluded, end_at, end_shown, ends_shown, is_stuck, shown_of};
@@ -44,10 +45,12 @@ pub(crate) fn prepare_explore<F: Files, P: Work>(
 ) -> Result<Prepared, Stop>
     requires orders { 2 ≤ length orders.now }
     requires calls { function_limit ≤ P.count work.now }
-    ensures done { (keep : Keep) (words : List Text) → Says words (command.Explore (record { file = file.now; states = states; end = asked; journal = with_journal }))
-        → IfOk result (λ p. Prints (given words (stored_of orders.now (P.returns work.now)) (λ name. F.file files.old name)) keep p.conclusion p.journal p.text.items) }
-    ensures stop { (words : List Text) → Says words (command.Explore (record { file = file.now; states = states; end = asked; journal = with_journal }))
-        → IfErr result (StopsCommand (given words (stored_of orders.now (P.returns work.now)) (λ name. F.file files.old name)) (F.faults files.old, F.faults files.new)) }
+    ensures done { (file_of : Text → Option Text) → Agree (F.seen files.old) (F.seen files.new) file_of
+        → (keep : Keep) (words : List Text) → Says words (command.Explore (record { file = file.now; states = states; end = asked; journal = with_journal }))
+        → IfOk result (λ p. Prints (given words (stored_of orders.now (P.returns work.now)) file_of) keep p.conclusion p.journal p.text.items) }
+    ensures stop { (file_of : Text → Option Text) → Agree (F.seen files.old) (F.seen files.new) file_of
+        → (words : List Text) → Says words (command.Explore (record { file = file.now; states = states; end = asked; journal = with_journal }))
+        → IfErr result (StopsCommand (given words (stored_of orders.now (P.returns work.now)) file_of) (F.faults files.old, F.faults files.new)) }
     ensures absent { F.absent files.old file.now → IsErrOf result CannotRead }
     ensures faulty { F.faults files.new ≢ F.faults files.old → IsErrOf result CannotRead }
     ensures begun { IfSome (F.begun files.new) (λ name. name ≡ file.now) }

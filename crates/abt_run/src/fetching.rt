@@ -1,10 +1,12 @@
 //! The workloads of files.
 
-ghost use Rattle.std.specs.Prelude.{◌≡◌, ◌≢◌, ◌≤◌, ℕ, List, IfErr, IfOk, IfSome, IsErrAnd, IsErrOf, Some};
+ghost use Rattle.std.specs.Prelude.{◌≡◌, ◌≢◌, ◌≤◌, ℕ, List, IfErr, IfOk, IfSome, IsErrAnd, IsErrOf, Some, Option};
 ghost use Rattle.abt_machine.specs.Grammar.{Reads};
+ghost use Rattle.abt_machine.specs.Words.{Text};
 ghost use Rattle.abt_run.specs.Prepared.{HasNoRun, HasNoWorkload};
 ghost use Rattle.abt_run.specs.Steps.{ExceedsKnown, LetsStreams, StopsAtNoLine};
 ghost use Rattle.abt_shell.specs.declared.status.Stop.TheVariants.{CannotRead};
+ghost use Rattle.abt_source.specs.Seen.{Agree, Grows};
 
 use abt_machine::{Format, Workload};
 use abt_shell::{Stop, Wrong, bytes_of};
@@ -19,11 +21,13 @@ use std::alloc::Global;
 ///
 /// `BadLine` if the bytes are not a workload's text, `CannotRead` if they cannot be read, `OutOfMemory` if memory is refused.
 pub fn fetch<F: Files>(alloc: Global, file: &str, files: &mut F) -> Result<Workload, Stop>
-    ensures reads { IfOk result (λ w. IfSome (F.file files.old file.now) (λ bytes. Reads bytes w)) }
-    ensures stop { IfErr result (HasNoWorkload (F.file files.old file.now) (F.faults files.old, F.faults files.new)) }
+    ensures reads { (file_of : Text → Option Text) → Agree (F.seen files.old) (F.seen files.new) file_of
+        → IfOk result (λ w. IfSome (file_of file.now) (λ bytes. Reads bytes w)) }
+    ensures stop { (file_of : Text → Option Text) → Agree (F.seen files.old) (F.seen files.new) file_of
+        → IfErr result (HasNoWorkload (file_of file.now) (F.faults files.old, F.faults files.new)) }
     ensures absent { F.absent files.old file.now → IsErrOf result CannotRead }
     ensures faulty { F.faults files.new ≢ F.faults files.old → IsErrOf result CannotRead }
-    ensures same { (name : List ℕ) → F.file files.new name ≡ F.file files.old name }
+    ensures grows { Grows (F.seen files.old) (F.seen files.new) }
     ensures missing { (name : List ℕ) → F.absent files.old name → F.absent files.new name }
     ensures begun { IfSome (F.begun files.new) (λ name. name ≡ file.now) }
     ensures later { F.faults files.old ≤ F.faults files.new }
@@ -43,13 +47,17 @@ pub fn fetch_run<F: Files>(
     asked: Option<u64>,
     files: &mut F,
 ) -> Result<(Workload, u64), Stop>
-    ensures reads { IfOk result (λ found. IfSome (F.file files.old file.now) (λ bytes. Reads bytes found.0)) }
-    ensures steps { IfOk result (λ found. LetsStreams (F.file files.old file.now) asked found.1) }
-    ensures stop { IfErr result (HasNoRun (F.file files.old file.now) asked (F.faults files.old, F.faults files.new)) }
-    ensures exceeds { ExceedsKnown (F.file files.old file.now) asked → IsErrAnd result (StopsAtNoLine (F.faults files.old, F.faults files.new)) }
+    ensures reads { (file_of : Text → Option Text) → Agree (F.seen files.old) (F.seen files.new) file_of
+        → IfOk result (λ found. IfSome (file_of file.now) (λ bytes. Reads bytes found.0)) }
+    ensures steps { (file_of : Text → Option Text) → Agree (F.seen files.old) (F.seen files.new) file_of
+        → IfOk result (λ found. LetsStreams (file_of file.now) asked found.1) }
+    ensures stop { (file_of : Text → Option Text) → Agree (F.seen files.old) (F.seen files.new) file_of
+        → IfErr result (HasNoRun (file_of file.now) asked (F.faults files.old, F.faults files.new)) }
+    ensures exceeds { (file_of : Text → Option Text) → Agree (F.seen files.old) (F.seen files.new) file_of
+        → ExceedsKnown (file_of file.now) asked → IsErrAnd result (StopsAtNoLine (F.faults files.old, F.faults files.new)) }
     ensures absent { F.absent files.old file.now → IsErrOf result CannotRead }
     ensures faulty { F.faults files.new ≢ F.faults files.old → IsErrOf result CannotRead }
-    ensures same { (name : List ℕ) → F.file files.new name ≡ F.file files.old name }
+    ensures grows { Grows (F.seen files.old) (F.seen files.new) }
     ensures missing { (name : List ℕ) → F.absent files.old name → F.absent files.new name }
     ensures begun { IfSome (F.begun files.new) (λ name. name ≡ file.now) }
     ensures later { F.faults files.old ≤ F.faults files.new }

@@ -1,6 +1,6 @@
 //! The command `flow`.
 
-ghost use Rattle.std.specs.Prelude.{◌≡◌, ◌≢◌, ◌≤◌, ◌++◌, All, IfErr, IfOk, IfSome, IsErrOf, List, OnOk, codes, decimal};
+ghost use Rattle.std.specs.Prelude.{◌≡◌, ◌≢◌, ◌≤◌, ◌++◌, All, IfErr, IfOk, IfSome, IsErrOf, List, OnOk, Option, codes, decimal};
 ghost use Rattle.abt_flow.specs.Confluent.{Confluent};
 ghost use Rattle.abt_machine.specs.Limits.{function_limit};
 ghost use Rattle.abt_machine.specs.Canonical.{op_words};
@@ -8,6 +8,7 @@ ghost use Rattle.abt_machine.specs.Operations.{IsDeclared};
 ghost use Rattle.abt_machine.specs.Pieces.{IsPieceOf};
 ghost use Rattle.abt_machine.specs.Stored.{Stored};
 ghost use Rattle.abt_machine.specs.Words.{Text, ended, line_of};
+ghost use Rattle.abt_source.specs.Seen.{Agree};
 ghost use Rattle.abt_words.specs.Commands.{Says};
 ghost use Rattle.abt_words.specs.declared.commands.Command.TheVariants as command;
 ghost use Rattle.abt_run.specs.Given.{given};
@@ -39,10 +40,12 @@ pub(crate) fn prepare_flow<F: Files, P: Work>(
     work: &P,
 ) -> Result<Prepared, Stop>
     requires calls { function_limit ≤ P.count work.now }
-    ensures done { (keep : Keep) (words : List Text) (stored : Stored) → stored.returns ≡ P.returns work.now → Says words (command.Flow file.now)
-        → IfOk result (λ p. Prints (given words stored (λ name. F.file files.old name)) keep p.conclusion p.journal p.text.items) }
-    ensures stop { (words : List Text) (stored : Stored) → stored.returns ≡ P.returns work.now → Says words (command.Flow file.now)
-        → IfErr result (StopsCommand (given words stored (λ name. F.file files.old name)) (F.faults files.old, F.faults files.new)) }
+    ensures done { (file_of : Text → Option Text) → Agree (F.seen files.old) (F.seen files.new) file_of
+        → (keep : Keep) (words : List Text) (stored : Stored) → stored.returns ≡ P.returns work.now → Says words (command.Flow file.now)
+        → IfOk result (λ p. Prints (given words stored file_of) keep p.conclusion p.journal p.text.items) }
+    ensures stop { (file_of : Text → Option Text) → Agree (F.seen files.old) (F.seen files.new) file_of
+        → (words : List Text) (stored : Stored) → stored.returns ≡ P.returns work.now → Says words (command.Flow file.now)
+        → IfErr result (StopsCommand (given words stored file_of) (F.faults files.old, F.faults files.new)) }
     ensures absent { F.absent files.old file.now → IsErrOf result CannotRead }
     ensures faulty { F.faults files.new ≢ F.faults files.old → IsErrOf result CannotRead }
     ensures begun { IfSome (F.begun files.new) (λ name. name ≡ file.now) }

@@ -2,6 +2,7 @@
 #![tactic(auto)]
 
 mod checking;
+mod differing;
 mod explaining;
 mod exploring;
 mod fetching;
@@ -9,6 +10,7 @@ mod following;
 mod keeping;
 mod prepared;
 mod program;
+mod reporting;
 mod running;
 mod status;
 mod usage;

@@ -10,6 +10,7 @@ ghost use Rattle.abt_machine.specs.Words.{Text};
 ghost use Rattle.abt_order.specs.Stored.{stored_of};
 ghost use Rattle.abt_record.specs.Records.{IsKept};
 ghost use Rattle.abt_report.specs.Pictures.{SaysWordsOf};
+ghost use Rattle.abt_source.specs.Seen.{Agree};
 ghost use Rattle.abt_words.specs.Commands.{Says};
 ghost use Rattle.abt_words.specs.declared.commands.Command.TheVariants as command;
 ghost use Rattle.abt_words.specs.declared.commands.RunWords.{RunWords};
@@ -61,11 +62,14 @@ pub(crate) fn prepare_file<R: Threads + Wait + Sync, F: Files, P: Work + Sync>(
 ) -> Result<Prepared, Stop>
     requires orders { 2 ≤ length orders.now }
     requires calls { function_limit ≤ P.count work.now }
-    ensures done { (words : List Text) → Says words (command.Run (record { file = file.now; steps = asked; journal = with_journal; why = with_why; schedule = schedule }))
-        → IfOk result (λ p. Prints (given words (stored_of orders.now (P.returns work.now)) (λ name. F.file files.old name)) keep p.conclusion p.journal p.text.items) }
-    ensures stop { (words : List Text) → Says words (command.Run (record { file = file.now; steps = asked; journal = with_journal; why = with_why; schedule = schedule }))
-        → IfErr result (StopsCommand (given words (stored_of orders.now (P.returns work.now)) (λ name. F.file files.old name)) (F.faults files.old, F.faults files.new)) }
-    ensures exceeds { ExceedsKnown (F.file files.old file.now) asked → IsErrAnd result (StopsAtNoLine (F.faults files.old, F.faults files.new)) }
+    ensures done { (file_of : Text → Option Text) → Agree (F.seen files.old) (F.seen files.new) file_of
+        → (words : List Text) → Says words (command.Run (record { file = file.now; steps = asked; journal = with_journal; why = with_why; schedule = schedule }))
+        → IfOk result (λ p. Prints (given words (stored_of orders.now (P.returns work.now)) file_of) keep p.conclusion p.journal p.text.items) }
+    ensures stop { (file_of : Text → Option Text) → Agree (F.seen files.old) (F.seen files.new) file_of
+        → (words : List Text) → Says words (command.Run (record { file = file.now; steps = asked; journal = with_journal; why = with_why; schedule = schedule }))
+        → IfErr result (StopsCommand (given words (stored_of orders.now (P.returns work.now)) file_of) (F.faults files.old, F.faults files.new)) }
+    ensures exceeds { (file_of : Text → Option Text) → Agree (F.seen files.old) (F.seen files.new) file_of
+        → ExceedsKnown (file_of file.now) asked → IsErrAnd result (StopsAtNoLine (F.faults files.old, F.faults files.new)) }
     ensures absent { F.absent files.old file.now → IsErrOf result CannotRead }
     ensures faulty { F.faults files.new ≢ F.faults files.old → IsErrOf result CannotRead }
     ensures begun { IfSome (F.begun files.new) (λ name. name ≡ file.now) }
@@ -106,7 +110,7 @@ pub(crate) fn prepare_self<R: Threads + Wait + Sync, P: Work + Sync>(
 }
 
 // The run of a workload whose streams take turns as the schedule says.
-#[tactic(auto, using(crate::proofs::Outputs::by_threads))]
+#[tactic(auto, using(crate::proofs::Outputs::by_threads, crate::proofs::Outputs::by_turns))]
 fn run_by<R: Threads + Wait + Sync, P: Work + Sync>(
     rt: &R,
     alloc: Global,
@@ -126,7 +130,10 @@ fn run_by<R: Threads + Wait + Sync, P: Work + Sync>(
             let ran = run_streams(rt, alloc, w, orders, work, steps, keeps)?;
             Ok(ran)
         }
-        Schedule::InTurn => drain_with(alloc, w, orders, work, steps, keeps),
+        Schedule::InTurn => {
+            let ran = drain_with(alloc, w, orders, work, steps, keeps)?;
+            Ok(ran)
+        }
         Schedule::Seed(seed) => run_by_seed(alloc, w, orders, work, seed, steps, keeps),
     }
 }

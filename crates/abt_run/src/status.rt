@@ -23,6 +23,10 @@ pub enum Conclusion {
     Followed(Option<Outcome>),
     /// A journal that was followed is no run: `at` is the greatest number of its first events that are one.
     Strays { at: u64 },
+    /// An output is that of a run, which ended this way.
+    Belongs(Outcome),
+    /// An output is not that of a run.
+    Differs,
     /// A workload is confluent, and its flow was found.
     Flows,
     /// A workload is not confluent.
@@ -57,6 +61,8 @@ impl Conclusion {
             Conclusion::Followed(Some(outcome)) => number_of_outcome(outcome),
             Conclusion::Followed(None) => 8,
             Conclusion::Strays { at: _ } => 3,
+            Conclusion::Belongs(_) => 0,
+            Conclusion::Differs => 1,
             Conclusion::NotConfluent | Conclusion::Undefined => 1,
             Conclusion::Finishes => 0,
             Conclusion::Sticks => 1,

@@ -1,5 +1,5 @@
 -- Words say at most one command.
-use Rattle.std.proofs.Common.{◌≡◌, ◌⊎◌, inl, inr, ℕ, Bool, false, true, refl, sym, ap, subst, ◌∙◌, List, [], ◌∷◌, Option, Some, None, codes}
+use Rattle.std.proofs.Common.{◌≡◌, ◌⊎◌, inl, inr, ℕ, Bool, true, refl, sym, ap, subst, ◌∙◌, List, [], ◌∷◌, Option, Some, None, codes}
 use Rattle.std.specs.Str.Parse.{digits_value}
 use Rattle.std.specs.Prelude.{IfOk, Result, Ok, Err}
 use Rattle.abt_words.specs.declared.fault.WordFault.{WordFault}
@@ -7,6 +7,7 @@ use Rattle.abt_words.specs.declared.commands.Command.{Command}
 use Rattle.abt_words.specs.declared.commands.Command.TheVariants as command
 use Rattle.abt_words.specs.declared.commands.CheckWords.{CheckWords}
 use Rattle.abt_words.specs.declared.commands.ExploreWords.{ExploreWords}
+use Rattle.abt_words.specs.declared.commands.OutputWords.{OutputWords}
 use Rattle.abt_words.specs.declared.commands.RunWords.{RunWords}
 use Rattle.abt_words.specs.declared.commands.Schedule.{Schedule}
 use Rattle.abt_words.specs.declared.commands.Schedule.TheVariants as schedule
@@ -15,7 +16,7 @@ use Rattle.abt_words.specs.declared.commands.Shows.TheVariants as shows
 use Rattle.abt_machine.specs.Words.{Text}
 use Rattle.abt_machine.specs.declared.grammar.Format.TheVariants as format
 use Rattle.abt_machine.specs.Spelling.{SaysNumber}
-use Rattle.abt_words.specs.Commands.{Says, SaysAtMostOne, SaysBy, SaysCheck, SaysEnd, SaysExplore, SaysFile, SaysFlag, SaysFollow, SaysJudge, SaysReport, SaysRun, SaysSchedule, SaysSelf, check_options, explore_options, judge_name, run_options, state_limit}
+use Rattle.abt_words.specs.Commands.{Says, SaysAtMostOne, SaysBy, SaysCheck, SaysEnd, SaysExplore, SaysFile, SaysFlag, SaysFollow, SaysJudge, SaysOutput, SaysReport, SaysRun, SaysSchedule, SaysSelf, check_options, explore_options, judge_name, run_options, state_limit}
 use Rattle.abt_words.specs.Rests.{Rest, rest_of}
 use Rattle.abt_words.specs.Steps.{step_limit_of}
 use Rattle.abt_words.proofs.CommandNames.{by-check, by-explore, by-flow, by-help, by-run, by-self, by-version}
@@ -62,6 +63,11 @@ one-end [] s t a b = a ∙ sym b
 one-end (v ∷ []) s t a b = a ∙ sym b
 one-end (v ∷ w ∷ vs) s t a b = absurd a
 
+-- an option that is not given is not asked for
+not-given : (vs : List Text) → vs ≡ [] → SaysFlag vs true → ⊥
+not-given [] none says = cc
+not-given (v ∷ vs) none says = no-head v vs none
+
 module _ (ws : List Text) where
   one-run : (w : RunWords) → SaysRun (rest_of run_options None ws) w → (d : Command) → SaysBy (codes "run") ws d → command.Run w ≡ d
   one-run w a = by-run ws (λ d. command.Run w ≡ d) (λ x b.
@@ -93,6 +99,15 @@ module _ (ws : List Text) where
       let journal : w.journal ≡ x.journal = head-of w.journal x.journal [] [] (tail-of w.workload x.workload _ _ words) in
       let shows : w.shows ≡ x.shows = one-end ((rest_of check_options None ws).given (codes "end")) w.shows x.shows a.2 b.2 in
       λ i. command.Check (record { workload = workload i; journal = journal i; shows = shows i }))
+      (λ x b. absurd (not-given ((rest_of check_options None ws).given (codes "report")) a.3 b.2))
+
+  one-output : (w : OutputWords) → SaysOutput (rest_of check_options None ws) w → (d : Command) → SaysBy (codes "check") ws d → command.CheckOutput w ≡ d
+  one-output w a = by-check ws (λ d. command.CheckOutput w ≡ d) (λ x b. absurd (not-given ((rest_of check_options None ws).given (codes "report")) b.3 a.2)) (λ x b.
+      let words : w.workload ∷ w.output ∷ [] ≡ x.workload ∷ x.output ∷ [] = sym a.0.0 ∙ b.0.0 in
+      let workload : w.workload ≡ x.workload = head-of w.workload x.workload _ _ words in
+      let output : w.output ≡ x.output = head-of w.output x.output [] [] (tail-of w.workload x.workload _ _ words) in
+      let why : w.why ≡ x.why = one-flag ((rest_of check_options None ws).given (codes "why")) w.why x.why a.3 b.3 in
+      λ i. command.CheckOutput (record { workload = workload i; output = output i; why = why i }))
 
   one-judge : (s : Shows) (w : CheckWords) → SaysJudge s ws w → (d : Command) → SaysBy (judge_name s) ws d → command.Check w ≡ d
   one-judge shows.Verdict w a = one-check w a
@@ -115,6 +130,7 @@ module _ (ws : List Text) where
   one-by name (command.Run w) d a b = one-run w a.1 d (sym a.0 ∙ b.0, b.1)
   one-by name (command.SelfRun n) d a b = one-self n a.1 d (sym a.0 ∙ b.0, b.1)
   one-by name (command.Check w) d a b = one-judge w.shows w a.1 d (sym a.0 ∙ b.0, b.1)
+  one-by name (command.CheckOutput w) d a b = one-output w a.1 d (sym a.0 ∙ b.0, b.1)
   one-by name (command.Flow f) d a b = one-flow f a.1 d (sym a.0 ∙ b.0, b.1)
   one-by name (command.Explore w) d a b = one-explore w a.1 d (sym a.0 ∙ b.0, b.1)
   one-by name command.Help d a b = by-help ws (λ d. command.Help ≡ d) (λ none. refl) d (sym a.0 ∙ b.0, b.1)
@@ -146,8 +162,9 @@ module _ (ws : List Text) (r : Rest) where
   pub no-self : rest_of [] None ws ≡ r → ((n : ℕ) → SaysSelf r n → ⊥) → (c : Command) → SaysBy (codes "self") ws c → ⊥
   no-self is none = by-self ws (λ c. ⊥) (λ n says. none n (subst (λ (r : Rest). SaysSelf r n) is says))
 
-  pub no-check : rest_of check_options None ws ≡ r → ((w : CheckWords) → SaysCheck r w → ⊥) → (c : Command) → SaysBy (codes "check") ws c → ⊥
-  no-check is none = by-check ws (λ c. ⊥) (λ w says. none w (subst (λ (r : Rest). SaysCheck r w) is says))
+  pub no-check : rest_of check_options None ws ≡ r → ((w : CheckWords) → SaysCheck r w → ⊥) → ((w : OutputWords) → SaysOutput r w → ⊥) → (c : Command) → SaysBy (codes "check") ws c → ⊥
+  no-check is none neither =
+      by-check ws (λ c. ⊥) (λ w says. none w (subst (λ (r : Rest). SaysCheck r w) is says)) (λ w says. neither w (subst (λ (r : Rest). SaysOutput r w) is says))
 
   pub no-flow : rest_of [] None ws ≡ r → ((f : Text) → SaysFile r f → ⊥) → (c : Command) → SaysBy (codes "flow") ws c → ⊥
   no-flow is none = by-flow ws (λ c. ⊥) (λ f says. none f (subst (λ (r : Rest). SaysFile r f) is says))
@@ -171,3 +188,7 @@ module _ (ws : List Text) (r : Rest) (w v : CheckWords) (same : v ≡ w) where
         | inl verdict ↦ subst (λ (s : Shows). (codes "check" ≡ judge_name s) × SaysJudge s ws w) (sym verdict) (refl, own)
         | inr end ↦ subst (λ (s : Shows). (codes "check" ≡ judge_name s) × SaysJudge s ws w) (sym end) (refl, own)
       ])
+
+module _ (ws : List Text) (r : Rest) (w v : OutputWords) (same : v ≡ w) where
+  pub output-said : rest_of check_options None ws ≡ r → SaysOutput r w → SaysBy (codes "check") ws (command.CheckOutput v)
+  output-said is says = subst (λ (x : OutputWords). SaysBy (codes "check") ws (command.CheckOutput x)) (sym same) (refl, subst (λ (q : Rest). SaysOutput q w) (sym is) says)

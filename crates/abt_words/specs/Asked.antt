@@ -8,8 +8,10 @@ use Rattle.clap.specs.declared.parser.matches.ArgMatches.{ArgMatches}
 use Rattle.abt_machine.specs.Words.{Text}
 use Rattle.abt_words.specs.Rests.{Options, Rest}
 use Rattle.abt_words.specs.declared.check.CheckAsked.{CheckAsked}
+use Rattle.abt_words.specs.declared.check.OutputAsked.{OutputAsked}
 use Rattle.abt_words.specs.declared.commands.CheckWords.{CheckWords}
 use Rattle.abt_words.specs.declared.commands.ExploreWords.{ExploreWords}
+use Rattle.abt_words.specs.declared.commands.OutputWords.{OutputWords}
 use Rattle.abt_words.specs.declared.commands.RunWords.{RunWords}
 use Rattle.abt_words.specs.declared.explore.ExploreAsked.{ExploreAsked}
 use Rattle.abt_words.specs.declared.run.RunAsked.{RunAsked}
@@ -52,6 +54,9 @@ run_words a = record { file = a.file.now; steps = a.steps; journal = a.journal; 
 
 abbrev pub check_words : CheckAsked → CheckWords
 check_words a = record { workload = a.workload.now; journal = a.journal.now; shows = a.shows }
+
+abbrev pub output_words : OutputAsked → OutputWords
+output_words a = record { workload = a.workload.now; output = a.output.now; why = a.why }
 
 abbrev pub explore_words : ExploreAsked → ExploreWords
 explore_words a = record { file = a.file.now; states = a.states; end = a.end; journal = a.journal }

@@ -9,6 +9,7 @@ use Rattle.abt_words.specs.declared.commands.Command.{Command}
 use Rattle.abt_words.specs.declared.commands.Command.TheVariants as command
 use Rattle.abt_words.specs.declared.commands.CheckWords.{CheckWords}
 use Rattle.abt_words.specs.declared.commands.ExploreWords.{ExploreWords}
+use Rattle.abt_words.specs.declared.commands.OutputWords.{OutputWords}
 use Rattle.abt_words.specs.declared.commands.RunWords.{RunWords}
 use Rattle.abt_words.specs.declared.commands.Schedule.{Schedule}
 use Rattle.abt_words.specs.declared.commands.Schedule.TheVariants as schedule
@@ -21,7 +22,7 @@ abbrev pub run_options : Options
 run_options = (codes "steps", true) ∷ (codes "journal", false) ∷ (codes "why", false) ∷ (codes "in-turn", false) ∷ (codes "seed", true) ∷ (codes "schedule", true) ∷ []
 
 abbrev pub check_options : Options
-check_options = (codes "end", false) ∷ []
+check_options = (codes "end", false) ∷ (codes "report", false) ∷ (codes "why", false) ∷ []
 
 abbrev pub explore_options : Options
 explore_options = (codes "states", true) ∷ (codes "end", true) ∷ (codes "journal", false) ∷ []
@@ -93,6 +94,12 @@ SaysEnd (v ∷ w ∷ vs) s = ⊥
 -- exactly two FILEs, and no option but that
 abbrev pub SaysCheck : Rest → CheckWords → Type 0
 SaysCheck r w = HasWords r (w.workload ∷ w.journal ∷ []) × AreFiles w.workload w.journal × SaysEnd (r.given (codes "end")) w.shows
+    × (r.given (codes "report") ≡ []) × (r.given (codes "why") ≡ [])
+
+-- exactly two FILEs, the option that asks for the report to be judged, and perhaps the one that says what units wait for, each once
+abbrev pub SaysOutput : Rest → OutputWords → Type 0
+SaysOutput r w = HasWords r (w.workload ∷ w.output ∷ []) × AreFiles w.workload w.output × SaysFlag (r.given (codes "report")) true
+    × SaysFlag (r.given (codes "why")) w.why × (r.given (codes "end") ≡ [])
 
 -- a report is shown after `run`, and else after `check`
 abbrev pub judge_name : Shows → Text
@@ -128,6 +135,7 @@ abbrev pub name_of : Command → Text
 name_of (command.Run w) = codes "run"
 name_of (command.SelfRun units) = codes "self"
 name_of (command.Check w) = judge_name w.shows
+name_of (command.CheckOutput w) = codes "check"
 name_of (command.Flow file) = codes "flow"
 name_of (command.Explore w) = codes "explore"
 name_of command.Help = codes "--help"
@@ -138,6 +146,7 @@ abbrev pub SaysRest : List Text → Command → Type 0
 SaysRest ws (command.Run w) = SaysRun (rest_of run_options None ws) w
 SaysRest ws (command.SelfRun units) = SaysSelf (rest_of [] None ws) units
 SaysRest ws (command.Check w) = SaysJudge w.shows ws w
+SaysRest ws (command.CheckOutput w) = SaysOutput (rest_of check_options None ws) w
 SaysRest ws (command.Flow file) = SaysFile (rest_of [] None ws) file
 SaysRest ws (command.Explore w) = SaysExplore (rest_of explore_options None ws) w
 SaysRest ws command.Help = ws ≡ []

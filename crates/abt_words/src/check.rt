@@ -3,22 +3,33 @@
 ghost use Rattle.std.specs.Prelude.{◌≡◌, IfOk, MatchOption, map, string_bytes, codes};
 ghost use Rattle.abt_words.specs.declared.commands.CheckWords.{CheckWords};
 ghost use Rattle.abt_words.specs.declared.commands.Command.{Command};
+ghost use Rattle.abt_words.specs.declared.commands.OutputWords.{OutputWords};
 ghost use Rattle.abt_words.specs.declared.commands.Shows.{Shows};
-ghost use Rattle.abt_words.specs.Asked.{check_words, found_values, rest_found};
-ghost use Rattle.abt_words.specs.Commands.{SaysBy, SaysCheck, SaysEnd};
+ghost use Rattle.abt_words.specs.Asked.{check_words, found_values, output_words, rest_found};
+ghost use Rattle.abt_words.specs.Commands.{SaysBy, SaysCheck, SaysEnd, SaysOutput};
 
 use crate::WordFault;
-use crate::asked::{are_files, two_words};
-use crate::commands::{CheckWords, Command, Shows};
+use crate::asked::{absent, are_files, flag, two_words};
+use crate::commands::{CheckWords, Command, OutputWords, Shows};
 use crate::options::{HowOften, OptionForm, given, read};
 use abt_machine::Text;
 use clap::ArgMatches;
 use std::alloc::{AllocError, Global};
 
-static OPTIONS: [OptionForm; 1] = [OptionForm {
-    name: "end",
-    takes_value: false,
-}];
+static OPTIONS: [OptionForm; 3] = [
+    OptionForm {
+        name: "end",
+        takes_value: false,
+    },
+    OptionForm {
+        name: "report",
+        takes_value: false,
+    },
+    OptionForm {
+        name: "why",
+        takes_value: false,
+    },
+];
 
 /// What words ask for that name a workload and a journal, as they stand there.
 #[derive(Clone, Copy)]
@@ -26,6 +37,14 @@ pub(crate) struct CheckAsked<'a> {
     pub(crate) workload: &'a str,
     pub(crate) journal: &'a str,
     pub(crate) shows: Shows,
+}
+
+/// What words ask for that name a workload and an output, as they stand there.
+#[derive(Clone, Copy)]
+pub(crate) struct OutputAsked<'a> {
+    pub(crate) workload: &'a str,
+    pub(crate) output: &'a str,
+    pub(crate) why: bool,
 }
 
 // What is shown of the journal.
@@ -41,7 +60,7 @@ fn shows_asked(found: &ArgMatches) -> Option<Shows>
     }
 }
 
-// What the words found ask for.
+// What the words found ask for, if they do not ask for the report to be judged.
 fn check_asked<'a>(found: &ArgMatches<'a>) -> Option<CheckAsked<'a>>
     ensures { MatchOption result
         ((w : CheckWords) → SaysCheck (rest_found found.now) w → ⊥)
@@ -52,10 +71,35 @@ fn check_asked<'a>(found: &ArgMatches<'a>) -> Option<CheckAsked<'a>>
         return None;
     }
     let shows = shows_asked(found)?;
+    absent(found, "report")?;
+    absent(found, "why")?;
     Some(CheckAsked {
         workload,
         journal,
         shows,
+    })
+}
+
+// What the words found ask for, if they ask for the report to be judged.
+fn output_asked<'a>(found: &ArgMatches<'a>) -> Option<OutputAsked<'a>>
+    ensures { MatchOption result
+        ((w : OutputWords) → SaysOutput (rest_found found.now) w → ⊥)
+        (λ asked. SaysOutput (rest_found found.now) (output_words asked)) }
+{
+    let (workload, output) = two_words(found)?;
+    if !are_files(workload, output) {
+        return None;
+    }
+    let report = flag(found, "report")?;
+    if !report {
+        return None;
+    }
+    let why = flag(found, "why")?;
+    absent(found, "end")?;
+    Some(OutputAsked {
+        workload,
+        output,
+        why,
     })
 }
 
@@ -70,15 +114,30 @@ pub(crate) fn named(alloc: Global, asked: &CheckAsked) -> Result<CheckWords, All
     })
 }
 
+// The words, with names of their own.
+fn named_output(alloc: Global, asked: &OutputAsked) -> Result<OutputWords, AllocError>
+    ensures { IfOk result (λ w. w ≡ output_words asked.now) }
+{
+    Ok(OutputWords {
+        workload: Text::new(String::from_str(alloc, asked.workload)?),
+        output: Text::new(String::from_str(alloc, asked.output)?),
+        why: asked.why,
+    })
+}
+
 /// The command that the words after `check` say.
 pub(crate) fn check(alloc: Global, rest: &[String]) -> Result<Command, WordFault>
     ensures said { IfOk result (λ c. SaysBy (codes "check") (map string_bytes rest.now) c) }
     ensures bad { result ≡ Err WordFault.Bad → (c : Command) → SaysBy (codes "check") (map string_bytes rest.now) c → ⊥ }
 {
     let found = read(alloc, &OPTIONS, rest)?;
-    let Some(asked) = check_asked(&found) else {
+    if let Some(asked) = check_asked(&found) {
+        let words = named(alloc, &asked)?;
+        return Ok(Command::Check(words));
+    }
+    let Some(asked) = output_asked(&found) else {
         return Err(WordFault::Bad);
     };
-    let words = named(alloc, &asked)?;
-    Ok(Command::Check(words))
+    let words = named_output(alloc, &asked)?;
+    Ok(Command::CheckOutput(words))
 }

@@ -15,8 +15,8 @@ use crate::self_run::self_run;
 use std::alloc::Global;
 
 /// The command that the words after the program's name say: `run FILE [--steps V] [--journal] [--why]` with at most one of
-/// `--in-turn` and `--seed N`, `run FILE --schedule JOURNAL [--why]`, `self N`, `check WORKLOAD JOURNAL [--end]`, `flow FILE`,
-/// `explore FILE [--states M] [--end K [--journal]]`, with the options in any order, `--help` or `--version`.
+/// `--in-turn` and `--seed N`, `run FILE --schedule JOURNAL [--why]`, `self N`, `check WORKLOAD JOURNAL [--end]`,
+/// `check WORKLOAD OUTPUT --report [--why]`, `flow FILE`, `explore FILE [--states M] [--end K [--journal]]`, with the options in any order, `--help` or `--version`.
 pub fn words(alloc: Global, list: &[String]) -> Result<Command, WordFault>
     ensures said { IfOk result (λ c. Says (map string_bytes list.now) c) }
     ensures only { IfOk result (λ c. (d : Command) → Says (map string_bytes list.now) d → d ≡ c) }

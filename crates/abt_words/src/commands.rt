@@ -44,6 +44,15 @@ pub struct CheckWords {
     pub shows: Shows,
 }
 
+/// What the words after `check` ask for if `--report` is one of them: a file with a workload, one with the output of a run, and whether that
+/// says what units wait for.
+#[derive(Drop)]
+pub struct OutputWords {
+    pub workload: Text,
+    pub output: Text,
+    pub why: bool,
+}
+
 /// What the words after `explore` ask for: a file with a workload, at most how many states are searched, if a word says that, and the
 /// number of an end, if only that one is printed, and whether a journal that leads to it is.
 #[derive(Drop)]
@@ -63,6 +72,8 @@ pub enum Command {
     SelfRun { units: u32 },
     /// Judges the journal in a file as a run of the workload in another.
     Check(CheckWords),
+    /// Judges what is in a file as the output of a run of the workload in another: its journal and its report.
+    CheckOutput(OutputWords),
     /// What each unit of the workload in a file prints, whatever the schedule.
     Flow { file: Text },
     /// The ways in which the workload in a file can end.

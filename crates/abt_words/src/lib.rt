@@ -23,7 +23,7 @@ mod steps;
 mod versions;
 
 pub use command::words;
-pub use commands::{CheckWords, Command, ExploreWords, RunWords, Schedule, Shows};
+pub use commands::{CheckWords, Command, ExploreWords, OutputWords, RunWords, Schedule, Shows};
 pub use explore::MOST_STATES;
 pub use fault::WordFault;
 pub use itself::{Topic, about};

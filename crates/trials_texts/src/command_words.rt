@@ -6,9 +6,10 @@ use std::alloc::{AllocError, Global};
 use std::test::Fail;
 
 // A command: to run a file, with the steps of each stream, if they are asked for, whether the journal is wanted, and how streams take
-// turns; to run it and say what units wait for; to run what is made of so many units; to check the journal of the second file against the workload of the first; to show its end or its report; to ask for
-// the flow of a file; to ask for its ends, in so many states, or for the end of a number, and whether its journal is wanted; and to ask for the
-// words and the version.
+// turns; to run it and say what units wait for; to run what is made of so many units; to check the journal of the second file against
+// the workload of the first; to show its end or its report; to check an output, and what units wait for or not; to ask for the flow of a
+// file; to ask for its ends, in so many states, or for the end of a number, and whether its journal is wanted; and to ask for the words
+// and the version.
 #[derive(Clone, Copy)]
 enum Wanted {
     Run(&'static str, Option<u64>, bool, Schedule),
@@ -16,6 +17,7 @@ enum Wanted {
     SelfRun(u32),
     Check(&'static str, &'static str),
     Judge(&'static str, &'static str, Shows),
+    CheckOutput(&'static str, &'static str, bool),
     Flow(&'static str),
     Explore(&'static str, Option<u64>, Option<u64>, bool),
     Help,
@@ -23,7 +25,7 @@ enum Wanted {
 }
 
 // Words with a comma between each two, and the command that they say.
-static SAID: [(&str, Wanted); 52] = [
+static SAID: [(&str, Wanted); 55] = [
     ("run,f", Wanted::Run("f", None, false, Schedule::Threads)),
     (
         "run,run",
@@ -132,6 +134,15 @@ static SAID: [(&str, Wanted); 52] = [
     ("check,w,w", Wanted::Check("w", "w")),
     ("check,w,--,-j", Wanted::Check("w", "-j")),
     ("check,--end,w,j", Wanted::Judge("w", "j", Shows::End)),
+    ("check,w,o,--report", Wanted::CheckOutput("w", "o", false)),
+    (
+        "check,--why,w,--report,-",
+        Wanted::CheckOutput("w", "-", true),
+    ),
+    (
+        "check,--report,--,w,--why",
+        Wanted::CheckOutput("w", "--why", false),
+    ),
     (
         "run,f,--schedule,j",
         Wanted::Judge("f", "j", Shows::Report { why: false }),
@@ -166,7 +177,7 @@ static SAID: [(&str, Wanted); 52] = [
 ];
 
 // Words that spell nothing.
-static REFUSED: [&str; 124] = [
+static REFUSED: [&str; 128] = [
     "",
     "walk",
     "Run,f",
@@ -245,6 +256,10 @@ static REFUSED: [&str; 124] = [
     "run,f,--schedule,j,--why,--why",
     "check,w,j,--end,--end",
     "check,w,j,--end=1",
+    "check,w,j,--why",
+    "check,w,j,--report,--end",
+    "check,w,j,--report,--report",
+    "check,-,-,--report",
     "check,w,j,--schedule,k",
     "run,f,--end,1",
     "run,f,--states,5",
@@ -333,6 +348,11 @@ fn is_command(command: &Command, wanted: &Wanted) -> bool {
             check.workload.as_str() == *first
                 && check.journal.as_str() == *second
                 && check.shows == *shows
+        }
+        (Command::CheckOutput(check), Wanted::CheckOutput(first, second, why)) => {
+            check.workload.as_str() == *first
+                && check.output.as_str() == *second
+                && check.why == *why
         }
         (Command::Flow { file }, Wanted::Flow(name)) => file.as_str() == *name,
         (Command::Explore(explore), Wanted::Explore(name, most, wanted, wants)) => {

@@ -26,9 +26,9 @@ returns-clause-done g c = λ words file_of says.
       steps = default_steps;
       may = refl;
       journal = left.events;
-      run = left.holds;
+      run = left.holds.0;
       scheduled = tt;
-      small = run-is-small c.in_ok-w.w (stored_of c.args.orders.now (g.P.Work.returns c.args.work.now)) c.known.ensures (as-many _ c.args.orders.now 2 c.requires.orders) left.events left.holds.run;
+      small = run-is-small c.in_ok-w.w (stored_of c.args.orders.now (g.P.Work.returns c.args.work.now)) c.known.ensures (as-many _ c.args.orders.now 2 c.requires.orders) left.events left.holds.0.run;
       output = c.in_ok-text.ensures left.events c.args.units (shown-in c.in_ok-w.w c.args.keep false c.keeps-keeps.result _ c.in_ok-ran.ran c.keeps-keeps.ensures left);
       kept = subst (λ (b : Bool). IsKept b left.events c.in_ok-ran.ran.journal) c.keeps-keeps.ensures left.kept;
     })
