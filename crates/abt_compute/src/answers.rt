@@ -1,6 +1,6 @@
 //! The answers to questions.
 
-ghost use Rattle.std.specs.Prelude.{◌≡◌, ◌≢◌, ◌<◌, ◌≤◌, IfErr, IfOk, IfSome, IsErrAnd, IsErrOf, codes};
+ghost use Rattle.std.specs.Prelude.{◌≡◌, ◌≢◌, ◌<◌, ◌≤◌, IfErr, IfOk, IfSome, IsErrAnd, IsErrOf, Option, codes};
 ghost use Rattle.abt_functions.specs.Primes.{primes_below};
 ghost use Rattle.abt_kernels.specs.Queens.{queens};
 ghost use Rattle.abt_kernels.specs.Sorting.{in_order};
@@ -11,6 +11,7 @@ ghost use Rattle.abt_compute.specs.Answers.{Answers, Prevents, common_line, coun
 ghost use Rattle.abt_compute.specs.Files.{IsUnread};
 ghost use Rattle.abt_compute.specs.Numbers.{number_lines};
 ghost use Rattle.abt_compute.specs.Questions.{IsWithin, Names, Subsequence, Sort, queen_limit, side_limit, streams_limit, turn_limit, question_of};
+ghost use Rattle.abt_source.specs.Seen.{Agree};
 
 use crate::numbers::lines_of_numbers;
 use crate::texts::{numbers_in, two_texts};
@@ -139,8 +140,10 @@ fn answer_of_two<R: Threads + Wait + Sync, F: Files>(
     files: &mut F,
 ) -> Result<Vec<u8>, Stop>
     requires streams { (0 < streams) × (streams ≤ streams_limit) }
-    ensures done { IfOk result (λ text. Answers (λ name. F.file files.old name) (Subsequence first.now second.now) text.items) }
-    ensures stop { IfErr result (Prevents (λ name. F.file files.old name) (Subsequence first.now second.now) (F.faults files.old, F.faults files.new)) }
+    ensures done { (file_of : Text → Option Text) → Agree (F.seen files.old) (F.seen files.new) file_of
+        → IfOk result (λ text. Answers file_of (Subsequence first.now second.now) text.items) }
+    ensures stop { (file_of : Text → Option Text) → Agree (F.seen files.old) (F.seen files.new) file_of
+        → IfErr result (Prevents file_of (Subsequence first.now second.now) (F.faults files.old, F.faults files.new)) }
     ensures absent { (file : Text) → Names (Subsequence first.now second.now) file → F.absent files.old file → IsErrAnd result IsUnread }
     ensures faulty { F.faults files.new ≢ F.faults files.old → IsErrOf result CannotRead }
     ensures begun { IfSome (F.begun files.new) (Names (Subsequence first.now second.now)) }
@@ -160,8 +163,10 @@ fn answer_of_list<R: Threads + Wait + Sync, F: Files>(
     files: &mut F,
 ) -> Result<Vec<u8>, Stop>
     requires streams { (0 < streams) × (streams ≤ streams_limit) }
-    ensures done { IfOk result (λ text. Answers (λ name. F.file files.old name) (Sort file.now) text.items) }
-    ensures stop { IfErr result (Prevents (λ name. F.file files.old name) (Sort file.now) (F.faults files.old, F.faults files.new)) }
+    ensures done { (file_of : Text → Option Text) → Agree (F.seen files.old) (F.seen files.new) file_of
+        → IfOk result (λ text. Answers file_of (Sort file.now) text.items) }
+    ensures stop { (file_of : Text → Option Text) → Agree (F.seen files.old) (F.seen files.new) file_of
+        → IfErr result (Prevents file_of (Sort file.now) (F.faults files.old, F.faults files.new)) }
     ensures absent { (name : Text) → Names (Sort file.now) name → F.absent files.old name → IsErrAnd result IsUnread }
     ensures faulty { F.faults files.new ≢ F.faults files.old → IsErrOf result CannotRead }
     ensures begun { IfSome (F.begun files.new) (Names (Sort file.now)) }
@@ -186,8 +191,10 @@ pub(crate) fn answer<R: Threads + Wait + Sync, F: Files>(
 ) -> Result<Vec<u8>, Stop>
     requires within { IsWithin (question_of asked) }
     requires streams { (0 < streams) × (streams ≤ streams_limit) }
-    ensures done { IfOk result (λ text. Answers (λ name. F.file files.old name) (question_of asked.entry) text.items) }
-    ensures stop { IfErr result (Prevents (λ name. F.file files.old name) (question_of asked.entry) (F.faults files.old, F.faults files.new)) }
+    ensures done { (file_of : Text → Option Text) → Agree (F.seen files.old) (F.seen files.new) file_of
+        → IfOk result (λ text. Answers file_of (question_of asked.entry) text.items) }
+    ensures stop { (file_of : Text → Option Text) → Agree (F.seen files.old) (F.seen files.new) file_of
+        → IfErr result (Prevents file_of (question_of asked.entry) (F.faults files.old, F.faults files.new)) }
     ensures absent { (file : Text) → Names (question_of asked.entry) file → F.absent files.old file → IsErrAnd result IsUnread }
     ensures faulty { F.faults files.new ≢ F.faults files.old → IsErrOf result CannotRead }
     ensures named { IfErr result (λ stop. stop ≡ CannotRead → IfSome (F.begun files.new) (Names (question_of asked.entry))) }

@@ -1,8 +1,10 @@
 //! The top call.
 
-ghost use Rattle.std.specs.Prelude.{◌≡◌, map, string_bytes};
+ghost use Rattle.std.specs.Prelude.{◌≡◌, Option, map, string_bytes};
+ghost use Rattle.abt_machine.specs.Words.{Text};
 ghost use Rattle.abt_shell.specs.Calls.{left};
 ghost use Rattle.abt_compute.specs.Program.{AsksNoTopic, IsAnswered, about_text};
+ghost use Rattle.abt_source.specs.Seen.{Agree};
 
 use crate::answers::answer;
 use crate::words::read_words;
@@ -44,12 +46,13 @@ fn compute<R: Threads + Wait + Sync, F: Files, K: Sink, E: Sink>(
     err: &mut E,
 ) -> u8
     requires { AsksNoTopic (map string_bytes words.now) }
-    ensures { IsAnswered result (record {
-      words = map string_bytes words.now;
-      file = λ name. F.file files.old name;
-      absent = λ name. F.absent files.old name;
-      left = left (F.faults files.old, F.faults files.new) (K.taken out.old, K.taken out.new) (K.faults out.old, K.faults out.new) (E.taken err.old, E.taken err.new) (E.faults err.old, E.faults err.new);
-    }) }
+    ensures { (file_of : Text → Option Text) → Agree (F.seen files.old) (F.seen files.new) file_of
+        → IsAnswered result (record {
+          words = map string_bytes words.now;
+          file = file_of;
+          absent = λ name. F.absent files.old name;
+          left = left (F.faults files.old, F.faults files.new) (K.taken out.old, K.taken out.new) (K.faults out.old, K.faults out.new) (E.taken err.old, E.taken err.new) (E.faults err.old, E.faults err.new);
+        }) }
 {
     match read_words(words) {
         None => stop_by(alloc, NAME, err, Stop::BadWords, More::Usage(USAGE)).number(),
@@ -76,12 +79,13 @@ pub fn abtwork<R: Threads + Wait + Sync, F: Files, K: Sink, E: Sink>(
     out: &mut K,
     err: &mut E,
 ) -> u8
-    ensures { IsAnswered result (record {
-      words = map string_bytes words.now;
-      file = λ name. F.file files.old name;
-      absent = λ name. F.absent files.old name;
-      left = left (F.faults files.old, F.faults files.new) (K.taken out.old, K.taken out.new) (K.faults out.old, K.faults out.new) (E.taken err.old, E.taken err.new) (E.faults err.old, E.faults err.new);
-    }) }
+    ensures { (file_of : Text → Option Text) → Agree (F.seen files.old) (F.seen files.new) file_of
+        → IsAnswered result (record {
+          words = map string_bytes words.now;
+          file = file_of;
+          absent = λ name. F.absent files.old name;
+          left = left (F.faults files.old, F.faults files.new) (K.taken out.old, K.taken out.new) (K.faults out.old, K.faults out.new) (E.taken err.old, E.taken err.new) (E.faults err.old, E.faults err.new);
+        }) }
 {
     match about(words) {
         Some(topic) => write_out(NAME, out, err, about_text(topic), 0),

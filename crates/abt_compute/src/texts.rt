@@ -1,9 +1,11 @@
 //! The texts of files.
 
-ghost use Rattle.std.specs.Prelude.{◌≡◌, ◌≢◌, ◌≤◌, ◌⊎◌, IfErr, IfOk, IfSome, IsErrAnd, IsErrOf};
+ghost use Rattle.std.specs.Prelude.{◌≡◌, ◌≢◌, ◌≤◌, ◌⊎◌, IfErr, IfOk, IfSome, IsErrAnd, IsErrOf, Option};
+ghost use Rattle.abt_machine.specs.Words.{Text};
 ghost use Rattle.abt_shell.specs.Fetched.{HasNot};
 ghost use Rattle.abt_shell.specs.declared.status.Stop.TheVariants.{CannotRead};
 ghost use Rattle.abt_compute.specs.Files.{AreBadTexts, Has, HasNumbers, IsBadList, IsUnread, text_limit};
+ghost use Rattle.abt_source.specs.Seen.{Agree};
 
 use crate::numbers::read_numbers;
 use abt_machine::Fault;
@@ -30,9 +32,12 @@ pub(crate) fn two_texts<F: Files>(
     second: &str,
     files: &mut F,
 ) -> Result<(Vec<u8>, Vec<u8>), Stop>
-    ensures first { IfOk result (λ texts. Has (F.file files.old first.now) text_limit texts.0.items) }
-    ensures second { IfOk result (λ texts. Has (F.file files.old second.now) text_limit texts.1.items) }
-    ensures stop { IfErr result (HasNot (AreBadTexts (F.file files.old first.now) (F.file files.old second.now)) (F.faults files.old, F.faults files.new)) }
+    ensures first { (file_of : Text → Option Text) → Agree (F.seen files.old) (F.seen files.new) file_of
+        → IfOk result (λ texts. Has (file_of first.now) text_limit texts.0.items) }
+    ensures second { (file_of : Text → Option Text) → Agree (F.seen files.old) (F.seen files.new) file_of
+        → IfOk result (λ texts. Has (file_of second.now) text_limit texts.1.items) }
+    ensures stop { (file_of : Text → Option Text) → Agree (F.seen files.old) (F.seen files.new) file_of
+        → IfErr result (HasNot (AreBadTexts (file_of first.now) (file_of second.now)) (F.faults files.old, F.faults files.new)) }
     ensures absent { F.absent files.old first.now → IsErrOf result CannotRead }
     ensures missing { F.absent files.old second.now → IsErrAnd result IsUnread }
     ensures faulty { F.faults files.new ≢ F.faults files.old → IsErrOf result CannotRead }
@@ -57,8 +62,10 @@ pub(crate) fn numbers_in<F: Files>(
     file: &str,
     files: &mut F,
 ) -> Result<Vec<u64>, Stop>
-    ensures lists { IfOk result (λ numbers. HasNumbers (F.file files.old file.now) numbers.items) }
-    ensures stop { IfErr result (HasNot (IsBadList (F.file files.old file.now)) (F.faults files.old, F.faults files.new)) }
+    ensures lists { (file_of : Text → Option Text) → Agree (F.seen files.old) (F.seen files.new) file_of
+        → IfOk result (λ numbers. HasNumbers (file_of file.now) numbers.items) }
+    ensures stop { (file_of : Text → Option Text) → Agree (F.seen files.old) (F.seen files.new) file_of
+        → IfErr result (HasNot (IsBadList (file_of file.now)) (F.faults files.old, F.faults files.new)) }
     ensures absent { F.absent files.old file.now → IsErrOf result CannotRead }
     ensures faulty { F.faults files.new ≢ F.faults files.old → IsErrOf result CannotRead }
     ensures begun { IfSome (F.begun files.new) (λ name. name ≡ file.now) }

@@ -12,6 +12,7 @@ use Rattle.abt_shell.specs.declared.status.Stop.{Stop}
 use Rattle.abt_shell.specs.declared.status.Wrong.{Wrong}
 use Rattle.abt_shell.specs.declared.status.Wrong.TheVariants.{Workload, Journal, Lives}
 use Rattle.abt_shell.proofs.Fetched.{grew-later, stops-file, stops-more}
+use Rattle.abt_sizes.specs.Laws.{IsSmall}
 use Rattle.abt_streams.specs.declared.life.Life.{Life}
 use Rattle.abt_streams.specs.declared.wave.Wave.{Wave}
 use Rattle.abt_streams.specs.Waves.{HasRunOn}
@@ -52,8 +53,8 @@ module _ (g : Given) (asked : LivesWords) (says : SaysLives g.words asked) where
   -- or both were read, and this ran and is printed
   pub ran-as : (W : Parts) (told : Option Text) → told ≡ g.file asked.lives → IsReadFrom g asked.workload W → (steps : ℕ) → MayMake (g.file asked.workload) asked.steps steps → (read : List Life)
       → IfSome told (λ bytes. ReadsLives W bytes read) → (waves : List Wave) → (J K : List Event) (o : Outcome) (k : Conclusion) (text : Text) → K ≡ J → k ≡ Ended o → (printed : Text) → printed ≡ text
-      → HasRunOn W g.stored steps read J waves o → text ≡ waves_output asked.journal W J waves o → PrintsLives g K k printed
-  ran-as W told same reads steps may read known waves J K o k text j e printed t ran output =
+      → HasRunOn W g.stored steps read J waves o → IsSmall W J → text ≡ waves_output asked.journal W J waves o → PrintsLives g K k printed
+  ran-as W told same reads steps may read known waves J K o k text j e printed t ran small output =
       subst (λ (L : List Event). PrintsLives g L k printed) (sym j) (subst (λ (q : Conclusion). PrintsLives g J q printed) (sym e) (record {
         asks = run;
         workload = W;
@@ -61,5 +62,6 @@ module _ (g : Given) (asked : LivesWords) (says : SaysLives g.words asked) where
         steps = steps;
         may = may;
         run = record { lives = read; waves = waves; reads = subst (λ (o : Option Text). IfSome o (λ bytes. ReadsLives W bytes read)) same known; run = ran };
+        small = small;
         output = t ∙ output;
       }))

@@ -19,6 +19,7 @@ use Rattle.abt_shell.specs.Calls.{EndsBy, HasReadFault, Left, Program}
 use Rattle.abt_shell.specs.Fetched.{StopsFor}
 use Rattle.abt_shell.specs.More.{Adds}
 use Rattle.abt_shell.specs.Told.{Grew}
+use Rattle.abt_sizes.specs.Laws.{IsSmall}
 use Rattle.abt_streams.specs.declared.life.Life.{Life}
 use Rattle.abt_streams.specs.declared.wave.Wave.{Wave}
 use Rattle.abt_streams.specs.Waves.{HasRunOn}
@@ -66,7 +67,7 @@ pub record IsRunOn (W : Parts) (file : Text) (steps : ℕ) (g : Given) (J : List
   pub reads : IfSome (g.file file) (λ bytes. ReadsLives W bytes lives)
   pub run : HasRunOn W g.stored steps lives J waves o
 
--- the workload of the first file that the words name ran on the lives in the second, J is the run and ended so, and the text is what the
+-- the workload of the first file that the words name ran on the lives in the second, J is the run, ended so, and is small, and the text is what the
 -- program prints of it
 pub record RanOnLives (g : Given) (J : List Event) (o : Outcome) (text : Text) : Type 0 where
   pub asks : AsksRun g.words
@@ -75,6 +76,7 @@ pub record RanOnLives (g : Given) (J : List Event) (o : Outcome) (text : Text) :
   pub steps : ℕ
   pub may : MayMake (g.file asks.asked.workload) asks.asked.steps steps
   pub run : IsRunOn workload asks.asked.lives steps g J o
+  pub small : IsSmall workload J
   pub output : text ≡ waves_output asks.asked.journal workload J run.waves o
 
 -- the call was carried out and came to this, J is the journal that is returned, and the text is what it prints

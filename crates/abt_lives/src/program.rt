@@ -10,12 +10,14 @@ ghost use Rattle.abt_run.specs.Given.{Given, given};
 ghost use Rattle.abt_run.specs.Steps.{ExceedsKnown, LetsStreams, StopsAtNoLine};
 ghost use Rattle.abt_shell.specs.Calls.{left};
 ghost use Rattle.abt_shell.specs.declared.status.Stop.TheVariants.{CannotRead, OutOfMemory};
+ghost use Rattle.abt_source.specs.Seen.{Agree, Grows};
 ghost use Rattle.abt_words.specs.About.{AsksAbout};
 ghost use Rattle.abt_words.specs.Lives.{SaysLives};
 ghost use Rattle.abt_lives.specs.Asked.{AsksRun, IsNamed, LacksLives, MayMake};
 ghost use Rattle.abt_lives.specs.Call.{IsAnswered, PrintsLives, StopsLives, waves_output};
 ghost use Rattle.abt_lives.specs.Lives.{HasNoLives, ReadsLives};
 ghost use Rattle.abt_lives.specs.declared.status.Conclusion.TheVariants as conclusion;
+ghost use Rattle.abt_sizes.specs.Laws.{IsSmall};
 ghost use Rattle.abt_streams.specs.Lives.{AreLives};
 ghost use Rattle.abt_streams.specs.Waves.{HasRunOn};
 
@@ -97,9 +99,12 @@ fn fetch_lives<F: Files>(
     file: &str,
     files: &mut F,
 ) -> Result<Lives, Stop>
+    ensures grows { Grows (F.seen files.old) (F.seen files.new) }
     ensures are { IfOk result (λ lives. AreLives w.now lives) }
-    ensures reads { IfOk result (λ lives. IfSome (F.file files.old file.now) (λ bytes. ReadsLives w.now bytes lives)) }
-    ensures stop { IfErr result (HasNoLives w.now (F.file files.old file.now) (F.faults files.old, F.faults files.new)) }
+    ensures reads { (file_of : Text → Option Text) → Agree (F.seen files.old) (F.seen files.new) file_of
+        → IfOk result (λ lives. IfSome (file_of file.now) (λ bytes. ReadsLives w.now bytes lives)) }
+    ensures stop { (file_of : Text → Option Text) → Agree (F.seen files.old) (F.seen files.new) file_of
+        → IfErr result (HasNoLives w.now (file_of file.now) (F.faults files.old, F.faults files.new)) }
     ensures absent { F.absent files.old file.now → IsErrOf result CannotRead }
     ensures faulty { F.faults files.new ≢ F.faults files.old → IsErrOf result CannotRead }
     ensures begun { IfSome (F.begun files.new) (λ name. name ≡ file.now) }
@@ -143,6 +148,7 @@ fn run_on<R: Threads + Wait + Sync, P: Work + Sync>(
     requires calls { function_limit ≤ P.count work.now }
     requires lives { AreLives w.now lives.now }
     ensures run { IfOk result (λ run. HasRunOn w.now (stored_of orders.now (P.returns work.now)) steps lives.now run.journal run.waves run.outcome) }
+    ensures small { IfOk result (λ run. IsSmall w.now run.journal) }
     ensures picture { IfOk result (λ run. IsPictureOf w.now run.journal run.picture) }
 {
     w.known();
@@ -163,14 +169,18 @@ fn prepare_files<R: Threads + Wait + Sync, F: Files, P: Work + Sync>(
 ) -> Result<Prepared, Stop>
     requires orders { 2 ≤ length orders.now }
     requires calls { function_limit ≤ P.count work.now }
-    ensures done { (words : List Text) → SaysLives words (record { workload = workload.now; lives = lives.now; steps = asked; journal = with_journal })
-        → IfOk result (λ p. PrintsLives (given words (stored_of orders.now (P.returns work.now)) (λ name. F.file files.old name)) p.journal p.conclusion p.text.items) }
-    ensures stop { (words : List Text) → SaysLives words (record { workload = workload.now; lives = lives.now; steps = asked; journal = with_journal })
-        → IfErr result (StopsLives (given words (stored_of orders.now (P.returns work.now)) (λ name. F.file files.old name)) (F.faults files.old, F.faults files.new)) }
+    ensures done { (file_of : Text → Option Text) → Agree (F.seen files.old) (F.seen files.new) file_of
+        → (words : List Text) → SaysLives words (record { workload = workload.now; lives = lives.now; steps = asked; journal = with_journal })
+        → IfOk result (λ p. PrintsLives (given words (stored_of orders.now (P.returns work.now)) file_of) p.journal p.conclusion p.text.items) }
+    ensures stop { (file_of : Text → Option Text) → Agree (F.seen files.old) (F.seen files.new) file_of
+        → (words : List Text) → SaysLives words (record { workload = workload.now; lives = lives.now; steps = asked; journal = with_journal })
+        → IfErr result (StopsLives (given words (stored_of orders.now (P.returns work.now)) file_of) (F.faults files.old, F.faults files.new)) }
     ensures absent { F.absent files.old workload.now → IsErrOf result CannotRead }
-    ensures missing { F.absent files.old lives.now
-        → IsErrAnd result (LacksLives (F.file files.old workload.now) asked (F.faults files.old, F.faults files.new)) }
-    ensures exceeds { ExceedsKnown (F.file files.old workload.now) asked
+    ensures missing { (file_of : Text → Option Text) → Agree (F.seen files.old) (F.seen files.new) file_of
+        → F.absent files.old lives.now
+        → IsErrAnd result (LacksLives (file_of workload.now) asked (F.faults files.old, F.faults files.new)) }
+    ensures exceeds { (file_of : Text → Option Text) → Agree (F.seen files.old) (F.seen files.new) file_of
+        → ExceedsKnown (file_of workload.now) asked
         → IsErrAnd result (StopsAtNoLine (F.faults files.old, F.faults files.new)) }
     ensures faulty { F.faults files.new ≢ F.faults files.old → IsErrOf result CannotRead }
     ensures begun { IfSome (F.begun files.new) (λ name. (name ≡ workload.now) ⊎ (name ≡ lives.now)) }
@@ -208,12 +218,16 @@ fn prepare<R: Threads + Wait + Sync, F: Files, P: Work + Sync>(
 ) -> Result<Prepared, Stop>
     requires orders { 2 ≤ length orders.now }
     requires calls { function_limit ≤ P.count work.now }
-    ensures done { IfOk result (λ p. PrintsLives (given (map string_bytes words.now) (stored_of orders.now (P.returns work.now)) (λ name. F.file files.old name)) p.journal p.conclusion p.text.items) }
-    ensures stop { IfErr result (StopsLives (given (map string_bytes words.now) (stored_of orders.now (P.returns work.now)) (λ name. F.file files.old name)) (F.faults files.old, F.faults files.new)) }
+    ensures done { (file_of : Text → Option Text) → Agree (F.seen files.old) (F.seen files.new) file_of
+        → IfOk result (λ p. PrintsLives (given (map string_bytes words.now) (stored_of orders.now (P.returns work.now)) file_of) p.journal p.conclusion p.text.items) }
+    ensures stop { (file_of : Text → Option Text) → Agree (F.seen files.old) (F.seen files.new) file_of
+        → IfErr result (StopsLives (given (map string_bytes words.now) (stored_of orders.now (P.returns work.now)) file_of) (F.faults files.old, F.faults files.new)) }
     ensures absent { (run : AsksRun (map string_bytes words.now)) → F.absent files.old run.asked.workload → IsErrOf result CannotRead ⊎ IsErrOf result OutOfMemory }
-    ensures missing { (run : AsksRun (map string_bytes words.now)) → F.absent files.old run.asked.lives
-        → IsErrAnd result (LacksLives (F.file files.old run.asked.workload) run.asked.steps (F.faults files.old, F.faults files.new)) }
-    ensures exceeds { (run : AsksRun (map string_bytes words.now)) → ExceedsKnown (F.file files.old run.asked.workload) run.asked.steps
+    ensures missing { (file_of : Text → Option Text) → Agree (F.seen files.old) (F.seen files.new) file_of
+        → (run : AsksRun (map string_bytes words.now)) → F.absent files.old run.asked.lives
+        → IsErrAnd result (LacksLives (file_of run.asked.workload) run.asked.steps (F.faults files.old, F.faults files.new)) }
+    ensures exceeds { (file_of : Text → Option Text) → Agree (F.seen files.old) (F.seen files.new) file_of
+        → (run : AsksRun (map string_bytes words.now)) → ExceedsKnown (file_of run.asked.workload) run.asked.steps
         → IsErrAnd result (StopsAtNoLine (F.faults files.old, F.faults files.new)) }
     ensures faulty { F.faults files.new ≢ F.faults files.old → IsErrOf result CannotRead }
     ensures named { IfErr result (λ stop. stop ≡ CannotRead → IfSome (F.begun files.new) (IsNamed (map string_bytes words.now))) }
@@ -262,12 +276,13 @@ pub fn abtwaves<R: Threads + Wait + Sync, F: Files, K: Sink, E: Sink, P: Work + 
 ) -> Ended
     requires orders { 2 ≤ length orders.now }
     requires calls { function_limit ≤ P.count work.now }
-    ensures { IsAnswered result.status (record {
-      given = given (map string_bytes words.now) (stored_of orders.now (P.returns work.now)) (λ name. F.file files.old name);
-      absent = λ name. F.absent files.old name;
-      left = left (F.faults files.old, F.faults files.new) (K.taken out.old, K.taken out.new) (K.faults out.old, K.faults out.new) (E.taken err.old, E.taken err.new) (E.faults err.old, E.faults err.new);
-      journal = result.journal;
-    }) }
+    ensures { (file_of : Text → Option Text) → Agree (F.seen files.old) (F.seen files.new) file_of
+        → IsAnswered result.status (record {
+          given = given (map string_bytes words.now) (stored_of orders.now (P.returns work.now)) file_of;
+          absent = λ name. F.absent files.old name;
+          left = left (F.faults files.old, F.faults files.new) (K.taken out.old, K.taken out.new) (K.faults out.old, K.faults out.new) (E.taken err.old, E.taken err.new) (E.faults err.old, E.faults err.new);
+          journal = result.journal;
+        }) }
 {
     match prepare(rt, alloc, words, files, work, orders) {
         Ok(done) => {

@@ -1,11 +1,12 @@
 //! The top call.
 
-ghost use Rattle.std.specs.Prelude.{◌≡◌, ◌≢◌, ◌≤◌, ◌⊎◌, IfErr, IfOk, IfSome, IsErrAnd, IsErrOf, List, None, Some, map, string_bytes};
+ghost use Rattle.std.specs.Prelude.{◌≡◌, ◌≢◌, ◌≤◌, ◌⊎◌, IfErr, IfOk, IfSome, IsErrAnd, IsErrOf, List, None, Option, Some, map, string_bytes};
 ghost use Rattle.abt_machine.specs.Words.{Text};
 ghost use Rattle.abt_run.specs.Prepared.{LacksSecond};
 ghost use Rattle.abt_shell.specs.Calls.{left};
 ghost use Rattle.abt_shell.specs.Fetched.{HasNoJournal};
 ghost use Rattle.abt_shell.specs.declared.status.Stop.TheVariants.{CannotRead, OutOfMemory};
+ghost use Rattle.abt_source.specs.Seen.{Agree};
 ghost use Rattle.abt_view.specs.Call.{IsAnswered, IsFileView, IsNamed, IsViewOf, LacksJournal, Prints, StopsView};
 ghost use Rattle.abt_view.specs.Views.{Asks, AsksNoTopic, Request, request, topic_text};
 
@@ -37,8 +38,10 @@ fn prepare_view<F: Files>(
     file: &str,
     files: &mut F,
 ) -> Result<Prepared, Stop>
-    ensures done { IfOk result (λ it. IsFileView (request view file.now None) (λ name. F.file files.old name) it.conclusion it.text.items) }
-    ensures stop { IfErr result (HasNoJournal (F.file files.old file.now) (F.faults files.old, F.faults files.new)) }
+    ensures done { (file_of : Text → Option Text) → Agree (F.seen files.old) (F.seen files.new) file_of
+        → IfOk result (λ it. IsFileView (request view file.now None) file_of it.conclusion it.text.items) }
+    ensures stop { (file_of : Text → Option Text) → Agree (F.seen files.old) (F.seen files.new) file_of
+        → IfErr result (HasNoJournal (file_of file.now) (F.faults files.old, F.faults files.new)) }
     ensures absent { F.absent files.old file.now → IsErrOf result CannotRead }
     ensures faulty { F.faults files.new ≢ F.faults files.old → IsErrOf result CannotRead }
     ensures begun { IfSome (F.begun files.new) (λ name. name ≡ file.now) }
@@ -60,11 +63,14 @@ fn prepare_named<F: Files>(
     workload: &str,
     files: &mut F,
 ) -> Result<Prepared, Stop>
-    ensures done { IfOk result (λ it. IsFileView (request view journal.now (Some workload.now)) (λ name. F.file files.old name) it.conclusion it.text.items) }
-    ensures stop { (words : List Text) → Asks words (request view journal.now (Some workload.now))
-        → IfErr result (StopsView words (λ name. F.file files.old name) (F.faults files.old, F.faults files.new)) }
+    ensures done { (file_of : Text → Option Text) → Agree (F.seen files.old) (F.seen files.new) file_of
+        → IfOk result (λ it. IsFileView (request view journal.now (Some workload.now)) file_of it.conclusion it.text.items) }
+    ensures stop { (file_of : Text → Option Text) → Agree (F.seen files.old) (F.seen files.new) file_of
+        → (words : List Text) → Asks words (request view journal.now (Some workload.now))
+        → IfErr result (StopsView words file_of (F.faults files.old, F.faults files.new)) }
     ensures absent { F.absent files.old workload.now → IsErrOf result CannotRead }
-    ensures missing { F.absent files.old journal.now → IsErrAnd result (LacksSecond (F.file files.old workload.now) (F.faults files.old, F.faults files.new)) }
+    ensures missing { (file_of : Text → Option Text) → Agree (F.seen files.old) (F.seen files.new) file_of
+        → F.absent files.old journal.now → IsErrAnd result (LacksSecond (file_of workload.now) (F.faults files.old, F.faults files.new)) }
     ensures faulty { F.faults files.new ≢ F.faults files.old → IsErrOf result CannotRead }
     ensures begun { IfSome (F.begun files.new) (λ name. (name ≡ workload.now) ⊎ (name ≡ journal.now)) }
     ensures later { F.faults files.old ≤ F.faults files.new }
@@ -94,11 +100,14 @@ fn prepare_topic(alloc: Global, topic: Topic) -> Result<Prepared, Stop>
 // The view that the words ask for.
 fn prepare_asked<F: Files>(alloc: Global, words: &[String], files: &mut F) -> Result<Prepared, Stop>
     requires { AsksNoTopic (map string_bytes words.now) }
-    ensures done { IfOk result (λ it. IsViewOf (map string_bytes words.now) (λ name. F.file files.old name) it.conclusion it.text.items) }
-    ensures stop { IfErr result (StopsView (map string_bytes words.now) (λ name. F.file files.old name) (F.faults files.old, F.faults files.new)) }
+    ensures done { (file_of : Text → Option Text) → Agree (F.seen files.old) (F.seen files.new) file_of
+        → IfOk result (λ it. IsViewOf (map string_bytes words.now) file_of it.conclusion it.text.items) }
+    ensures stop { (file_of : Text → Option Text) → Agree (F.seen files.old) (F.seen files.new) file_of
+        → IfErr result (StopsView (map string_bytes words.now) file_of (F.faults files.old, F.faults files.new)) }
     ensures missing { (q : Request) (file : Text) → Asks (map string_bytes words.now) q → q.workload ≡ Some file → F.absent files.old file → IsErrOf result CannotRead }
-    ensures absent { (q : Request) → Asks (map string_bytes words.now) q → F.absent files.old q.journal
-        → IsErrAnd result (LacksJournal q.workload (λ name. F.file files.old name) (F.faults files.old, F.faults files.new)) }
+    ensures absent { (file_of : Text → Option Text) → Agree (F.seen files.old) (F.seen files.new) file_of
+        → (q : Request) → Asks (map string_bytes words.now) q → F.absent files.old q.journal
+        → IsErrAnd result (LacksJournal q.workload file_of (F.faults files.old, F.faults files.new)) }
     ensures faulty { F.faults files.new ≢ F.faults files.old → IsErrOf result CannotRead }
     ensures named { IfErr result (λ stop. stop ≡ CannotRead → IfSome (F.begun files.new) (IsNamed (map string_bytes words.now))) }
     ensures later { F.faults files.old ≤ F.faults files.new }
@@ -114,11 +123,14 @@ fn prepare_asked<F: Files>(alloc: Global, words: &[String], files: &mut F) -> Re
 
 // What the words ask for: all of a call except its writes.
 fn prepare<F: Files>(alloc: Global, words: &[String], files: &mut F) -> Result<Prepared, Stop>
-    ensures done { IfOk result (λ it. Prints (map string_bytes words.now) (λ name. F.file files.old name) it.conclusion it.text.items) }
-    ensures stop { IfErr result (StopsView (map string_bytes words.now) (λ name. F.file files.old name) (F.faults files.old, F.faults files.new)) }
+    ensures done { (file_of : Text → Option Text) → Agree (F.seen files.old) (F.seen files.new) file_of
+        → IfOk result (λ it. Prints (map string_bytes words.now) file_of it.conclusion it.text.items) }
+    ensures stop { (file_of : Text → Option Text) → Agree (F.seen files.old) (F.seen files.new) file_of
+        → IfErr result (StopsView (map string_bytes words.now) file_of (F.faults files.old, F.faults files.new)) }
     ensures missing { (q : Request) (file : Text) → Asks (map string_bytes words.now) q → q.workload ≡ Some file → F.absent files.old file → IsErrOf result CannotRead }
-    ensures absent { (q : Request) → Asks (map string_bytes words.now) q → F.absent files.old q.journal
-        → IsErrAnd result (LacksJournal q.workload (λ name. F.file files.old name) (F.faults files.old, F.faults files.new)) }
+    ensures absent { (file_of : Text → Option Text) → Agree (F.seen files.old) (F.seen files.new) file_of
+        → (q : Request) → Asks (map string_bytes words.now) q → F.absent files.old q.journal
+        → IsErrAnd result (LacksJournal q.workload file_of (F.faults files.old, F.faults files.new)) }
     ensures faulty { F.faults files.new ≢ F.faults files.old → IsErrOf result CannotRead }
     ensures named { IfErr result (λ stop. stop ≡ CannotRead → IfSome (F.begun files.new) (IsNamed (map string_bytes words.now))) }
     ensures later { F.faults files.old ≤ F.faults files.new }
@@ -141,12 +153,13 @@ pub fn abtview<F: Files, K: Sink, E: Sink>(
     out: &mut K,
     err: &mut E,
 ) -> u8
-    ensures { IsAnswered result (record {
-      words = map string_bytes words.now;
-      file = λ name. F.file files.old name;
-      absent = λ name. F.absent files.old name;
-      left = left (F.faults files.old, F.faults files.new) (K.taken out.old, K.taken out.new) (K.faults out.old, K.faults out.new) (E.taken err.old, E.taken err.new) (E.faults err.old, E.faults err.new);
-    }) }
+    ensures { (file_of : Text → Option Text) → Agree (F.seen files.old) (F.seen files.new) file_of
+        → IsAnswered result (record {
+          words = map string_bytes words.now;
+          file = file_of;
+          absent = λ name. F.absent files.old name;
+          left = left (F.faults files.old, F.faults files.new) (K.taken out.old, K.taken out.new) (K.faults out.old, K.faults out.new) (E.taken err.old, E.taken err.new) (E.faults err.old, E.faults err.new);
+        }) }
 {
     match prepare(alloc, words, files) {
         Ok(it) => write_out(NAME, out, err, &it.text, it.conclusion.number()),
