@@ -1,4 +1,4 @@
-use Rattle.std.proofs.Common.{◌++◌, ◌∷◌, [], Bool, List, length}
+use Rattle.std.proofs.Common.{◌++◌, ◌∷◌, [], List, length}
 use Rattle.abt_machine.specs.declared.events.Event.{Event}
 use Rattle.abt_machine.specs.Runs.{last_state}
 use Rattle.abt_check.specs.Pieces.{IsReplayed, Replays}
