@@ -101,6 +101,18 @@ turns_text() {
     echo end
 }
 
+# Four streams whose units all lock one mutex and unlock it.
+fight_text() {
+    local stream
+    streams_text 3 4
+    printf '%s\n' 'object 0 mutex' 'units 256'
+    for stream in 0 1 2 3; do
+        echo "many $((64 * stream)) 64 ult at $stream"
+        for _ in {1..480}; do printf '%s\n' 'lock 0' 'unlock 0'; done
+    done
+    echo end
+}
+
 # Whether one of three runs of the turns starts few threads, of which each wave has one. (A thread that starts late costs waves.)
 starts_few() {
     local time
@@ -127,6 +139,10 @@ try_threads() {
     done
     turns_text >"$room/turns.abt"
     holds "streams that wait for one another stay in their wave" starts_few
+    fight_text >"$room/text.abt"
+    meddled TRIAL_LATE=3 TRIAL_STARTS="$room/count" "$program" run "$room/text.abt"
+    holds "threads that begin late: the status" [ "$status" = 0 ]
+    holds "threads that begin late are not taken for ones that lack" [ "$(cat "$room/count")" -lt 1000 ]
     {
         streams_text 3 4
         printf '%s\n' 'units 1' 'unit 0 ult at 0' 'set 1000000' 'call 1' 'print' end
@@ -231,6 +247,14 @@ try_many_objects() {
     holds "65,536 objects, replayed: the status" [ "$status" = 0 ]
 }
 
+# A program of fifteen operations for 65,536 units, which is in memory once: without it they take 408 bytes each, and with one each 648.
+try_shared_programs() {
+    printf '%s\n' 'abt 3' 'streams 1' 'pool 0 fifo mpmc' 'sched 0 prio 0' 'stream 0 main 0' 'units 65536' 'many 0 65536 ult at 0' \
+        'repeat 15 yield' end >"$room/text.abt"
+    call bash -c 'ulimit -v 36000 && exec "$@"' - "$program" run "$room/text.abt"
+    holds "a program for 65,536 units: the status" [ "$status" = 0 ]
+}
+
 # Words that are no command, each with the words parted by blanks.
 try_bad_words() {
     local words
@@ -240,7 +264,8 @@ try_bad_words() {
         'self 99999999999999999999' 'self 3 --journal' Run '--help self' '-h' '--version --help' help "run $hi --in-turn --in-turn" "run $hi --in-turn=1" \
         "run $hi --seed" "run $hi --seed -1" "run $hi --seed 18446744073709551616" "run $hi --seed 1 --seed 1" "run $hi --seed 1 --in-turn" 'self 3 --seed 1' \
         "run $hi --schedule" "run $hi --schedule=" "run - --schedule -" "run $hi --schedule j --schedule j" "run $hi --schedule j --journal" \
-        "run $hi --schedule j --steps 5" "run $hi --schedule j --seed 1" "run $hi --schedule j --in-turn" "check $hi j --end --end" "check $hi j --end=1" "-- run $hi" "$hi"; do
+        "run $hi --schedule j --steps 5" "run $hi --schedule j --seed 1" "run $hi --schedule j --in-turn" "check $hi j --end --end" "check $hi j --end=1" "check $hi j --why" "check $hi j --report --end" "check $hi j --report --report" \
+        "check - - --report" "-- run $hi" "$hi"; do
         call "$program" $words
         came "the words '$words'" 2 "" "$(words_are_bad "${words%% *}")"
     done
@@ -277,7 +302,7 @@ try_words() {
     local file turn
     call "$program" --help
     holds "help: the status" [ "$status $(wc -c <"$room/err")" = "0 0" ]
-    holds "help: the commands" [ "$(sed 's/^abtrun //; s/ .*//' "$room/out" | xargs)" = "run run self check flow explore --help --version" ]
+    holds "help: the commands" [ "$(sed 's/^abtrun //; s/ .*//' "$room/out" | xargs)" = "run run self check check flow explore --help --version" ]
     call "$program" --version
     came "the version" 0 "$(version_of abtrun)" ""
     call "$program" run "$data/stuck.abt" --why
@@ -602,6 +627,74 @@ try_checks() {
     came "a flow of two files" 2 "" "$(words_are_bad flow)"
 }
 
+# judged TITLE STATUS OUT [WORDS..]: what is said of the output in $room/output, as that of a run of $file.
+judged() {
+    local title=$1 wanted=$2 out=$3
+    shift 3
+    call "$program" check "$file" "$room/output" --report "$@"
+    came "the output of ${file##*/}: $title" "$wanted" "$out" ""
+}
+
+# differs TITLE LINE EXPECTED FOUND [WORDS..]: of that output this line is the first that is wrong.
+differs() {
+    local title=$1 line=$2 expected=$3 found=$4
+    shift 4
+    judged "$title" 1 "bad $line
+expected $expected
+found $found" "$@"
+}
+
+# Outputs of runs that are judged whole, and those of which something was changed or lost.
+try_outputs() {
+    local file outcome
+    for outcome in hi:finished stealing:finished streams:finished stuck:stuck "budget:budget 0"; do
+        file=$data/${outcome%%:*}.abt
+        "$program" run "$file" --journal >"$room/output"
+        judged "as it was printed" 0 "run
+${outcome#*:}"
+        call "$program" check "$file" - --report < <("$program" run "$file" --journal)
+        came "the output of ${file##*/}: through a pipe" 0 "run
+${outcome#*:}" ""
+    done
+    file=$data/stuck.abt
+    "$program" run "$file" --journal --why >"$room/output"
+    judged "with what units wait for" 0 $'run\nstuck' --why
+    differs "with what units wait for, unasked" "$(($(grep -c . "$room/output") - 2))" '""' '"unit 0 at mutex 1, owned by unit 1, which is blocked\n"'
+    "$program" run "$file" --journal >"$room/output"
+    differs "without what units wait for" "$(($(grep -c . "$room/output") + 1))" '"unit 0 at mutex 1, owned by unit 1, which is blocked\n"' '""' --why
+    file=$hi
+    "$program" run "$hi" --journal >"$room/whole"
+    sed 's/^unit 0 done: hi$/unit 0 done: ho/' "$room/whole" >"$room/output"
+    differs "another row" 6 '"unit 0 done: hi\n"' '"unit 0 done: ho\n"'
+    sed 's/^tally units 1/tally units 2/' "$room/whole" >"$room/output"
+    differs "another tally" 7 "\"$(sed -n 7p "$room/whole")\\n\"" "\"$(sed -n 7p "$room/output")\\n\""
+    sed '$d' "$room/whole" >"$room/output"
+    differs "without its last line" 8 '"finished\n"' '""'
+    head -c -1 "$room/whole" >"$room/output"
+    differs "without its last line feed" 8 '"finished\n"' '"finished"'
+    head -c -4 "$room/whole" >"$room/output"
+    differs "cut off in its last line" 8 '"finished\n"' '"finis"'
+    { cat "$room/whole" && echo finished; } >"$room/output"
+    differs "with another line" 9 '""' '"finished\n"'
+    grep '^[0-9]' "$room/whole" >"$room/output"
+    differs "without its report" 6 '"unit 0 done: hi\n"' '""'
+    { cat "$room/output" && hello | "$program" run -; } >"$room/other" && mv "$room/other" "$room/output"
+    differs "the report of another workload" 6 '"unit 0 done: hi\n"' '"unit 0 done: hello\n"'
+    head -n 3 "$room/whole" >"$room/output"
+    differs "cut off in its journal" 4 "an event" '""'
+    sed 4,5d "$room/whole" >"$room/output"
+    differs "a report after the first events" 4 "an event" '"unit 0 done: hi\n"'
+    sed 2d "$room/whole" >"$room/output"
+    judged "without an event" 1 "bad 2"
+    : >"$room/output"
+    differs "nothing at all" 1 "an event" '""'
+    head -c 17 "$room/whole" >"$room/output"
+    call "$program" check "$hi" "$room/output" --report
+    came "the output of hi.abt: cut off in a line of its journal" 3 "" "abtrun: line 2: journal"
+    call "$program" check "$hi" "$room/absent" --report
+    came "an output that is absent" 5 "" "$(blamed "$room/absent" absent)"
+}
+
 # streams_apart N THINGS..: the lines of a workload up to its units, one for each of N streams, which has a pool of its own, with objects.
 streams_apart() {
     local n=$1 i
@@ -756,6 +849,7 @@ try_threads
 try_neighbour
 try_full
 try_many_objects
+try_shared_programs
 try_bad_words
 try_words
 try_seeds
@@ -773,6 +867,7 @@ signalled HUP 129 "$hi" "$program" run -
 signalled KILL 137 "$hi" "$program" run -
 signalled INT 130 "$hi" "$program" run -
 try_checks
+try_outputs
 try_ends
 refuse_memory
 rm "$room/fifo"

@@ -27,6 +27,12 @@ checks() {
     allows "$1" "$2" "$(instructions check "$3" "$3.journal")" "$(instructions check "$3" /dev/null)" "$(wc -l <"$3.journal")"
 }
 
+# lines NAME COUNT: a workload of format 3 whose one unit has so many lines of six bytes.
+lines() {
+    { printf '%s\n' 'abt 3' 'streams 1' 'pool 0 fifo mpmc' 'sched 0 prio 0' 'stream 0 main 0' 'units 1' 'unit 0 ult at 0' &&
+        yes yield | head -n "$2" && echo end; } >"$room/$1.abt"
+}
+
 # one_stream NAME LINES: a workload of format 2 whose one stream has 256 units with these operations.
 one_stream() {
     printf '%s\n' 'abt 2' 'streams 1' 'pool 0 fifo mpmc' 'sched 0 prio 0' 'stream 0 main 0' 'object 0 mutex' 'units 256' \
@@ -38,17 +44,28 @@ beside_idle() {
     { streams_text 2 8 && printf '%s\n' 'object 0 mutex' 'units 256' 'many 0 256 ult at 0' "$2" end; } >"$room/$1.abt"
 }
 
+# on_four NAME LINES: the same units, 64 in the pool of each of four streams.
+on_four() {
+    local stream
+    { streams_text 2 4 && echo 'units 256' && for stream in 0 1 2 3; do printf '%s\n' "many $((64 * stream)) 64 ult at $stream" "$2"; done && echo end; } >"$room/$1.abt"
+}
+
 if ! command -v valgrind >/dev/null; then
     skip instructions "there is no valgrind"
     return
 fi
+lines few 1
+lines many 4096
 one_stream yields 'repeat 255 yield'
 one_stream adds 'repeat 255 add 1'
 one_stream locks "$(for _ in {1..127}; do printf 'lock 0\nunlock 0\n'; done)"
 beside_idle idle 'repeat 255 yield'
+on_four four 'repeat 255 yield'
 takes yields 155 "$room/yields.abt"
 takes idle 170 "$room/idle.abt"
+takes four 330 "$room/four.abt"
 takes adds 200 "$room/adds.abt"
 takes locks 295 "$room/locks.abt"
 prints printed 200 "$room/yields.abt"
+allows read 680 "$(instructions run "$room/many.abt" --steps 1)" "$(instructions run "$room/few.abt" --steps 1)" 4095
 checks checked 750 "$room/yields.abt"

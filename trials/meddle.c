@@ -6,6 +6,7 @@
 //   TRIAL_WRITE   the most bytes that one write moves
 //   TRIAL_NO_READ, TRIAL_NO_WRITE  the read, or the write, that fails, counted from 1
 //   TRIAL_THREADS  the most threads that start
+//   TRIAL_LATE  the threads, counted from the first and 16 at most, that begin 200 milliseconds late
 // TRIAL_COUNT, TRIAL_STARTS and TRIAL_SLEEPS name files, which get the numbers of allocations, of threads that were to start, and of
 // calls that were to wait for a word of memory to change, at the end.
 typedef unsigned long size;
@@ -18,7 +19,7 @@ extern char *getenv(const char *);
 extern int *__errno_location(void);
 extern void *dlsym(void *, const char *);
 
-enum { READ = 0, WRITE = 1, OPEN = 2, CLOSE = 3, FUTEX = 202, EXIT_GROUP = 231, WRITE_NEW = 01 | 0100 | 01000 };
+enum { READ = 0, WRITE = 1, OPEN = 2, CLOSE = 3, SLEEP = 35, FUTEX = 202, EXIT_GROUP = 231, WRITE_NEW = 01 | 0100 | 01000 };
 enum { EIO = 5, EAGAIN = 11, ENOMEM = 12 };
 
 // Of the operations on a word, those that wait.
@@ -28,7 +29,7 @@ typedef long (*system_call)(long, long, long, long, long, long, long);
 typedef int (*thread_start)(void *, const void *, void *(*)(void *), void *);
 
 static size allocations, reads, writes, starts, sleeps;
-static size refused, from, read_most, write_most, no_read, no_write, most_threads;
+static size refused, from, read_most, write_most, no_read, no_write, most_threads, late;
 static int is_ready, has_most_threads;
 static system_call real_syscall;
 static thread_start real_start;
@@ -53,6 +54,7 @@ __attribute__((constructor)) static void begin(void) {
     real_start = (thread_start)behind("pthread_create");
     has_most_threads = getenv("TRIAL_THREADS") != 0;
     most_threads = number("TRIAL_THREADS");
+    late = number("TRIAL_LATE");
     refused = number("TRIAL_REFUSE");
     from = number("TRIAL_FROM");
     read_most = number("TRIAL_READ");
@@ -88,10 +90,26 @@ __attribute__((noreturn)) void _exit(int status) {
     for (;;) syscall(EXIT_GROUP, status, 0, 0, 0, 0, 0);
 }
 
+// What a thread that begins late is to run.
+enum { MOST_LATE = 16 };
+static struct work {
+    void *(*run)(void *);
+    void *given;
+} works[MOST_LATE];
+
+static void *run_late(void *given) {
+    struct work *work = given;
+    long time[2] = {0, 200000000};
+    syscall(SLEEP, (long)time, 0, 0, 0, 0, 0);
+    return work->run(work->given);
+}
+
 int pthread_create(void *thread, const void *attributes, void *(*run)(void *), void *given) {
     size now = __atomic_add_fetch(&starts, 1, __ATOMIC_SEQ_CST);
     if (has_most_threads && now > most_threads) return EAGAIN;
-    return real_start(thread, attributes, run, given);
+    if (now > late || now > MOST_LATE) return real_start(thread, attributes, run, given);
+    works[now - 1] = (struct work){run, given};
+    return real_start(thread, attributes, run_late, &works[now - 1]);
 }
 
 // Whether the next allocation is refused.
