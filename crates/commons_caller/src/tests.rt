@@ -244,19 +244,19 @@ fn threads_lose_no_unit(rt: HostRuntime) -> Result<(), Fail> {
 // The text of a workload with objects of all kinds, and `started` units that start in pool 0 besides an unborn one.
 fn text_of(alloc: Global, started: u8) -> Result<String, AllocError> {
     let mut text = String::from_str(alloc, KINDS)?;
-    push_units(&mut text, alloc, started)?;
+    push_units(&mut text, started)?;
     Ok(text)
 }
 
 // Appends the lines of the units.
-fn push_units(text: &mut String, alloc: Global, started: u8) -> Result<(), AllocError> {
-    text.push_str(&format!(in alloc; "units {units}\n", units = u32::from(started) + 1)?)?;
+fn push_units(text: &mut String, started: u8) -> Result<(), AllocError> {
+    writeln!(text, "units {}", u32::from(started) + 1)?;
     for u in 0..started {
-        push_unit(text, alloc, u, "ult at 0")?;
+        push_unit(text, u, "ult at 0")?;
     }
-    push_unit(text, alloc, started, "ult later\nend")
+    push_unit(text, started, "ult later\nend")
 }
 
-fn push_unit(text: &mut String, alloc: Global, u: u8, rest: &str) -> Result<(), AllocError> {
-    text.push_str(&format!(in alloc; "unit {u} {rest}\n")?)
+fn push_unit(text: &mut String, u: u8, rest: &str) -> Result<(), AllocError> {
+    writeln!(text, "unit {u} {rest}")
 }

@@ -188,6 +188,24 @@ pub fn play<'w, C: Commons<'w>>(
 /// A request, the site where it is asked, and what is to be heard.
 pub type Row = (Site, Request, Option<Heard>);
 
+// Plays a row. Whether what is heard is what is to be heard.
+fn is_heard<'w, C: Commons<'w>>(
+    commons: &C,
+    pass: &mut C::Pass,
+    w: &Workload,
+    hand: &mut Chain,
+    row: Row,
+) -> bool
+    requires workload { C.workload commons.now ≡ w.now }
+    requires pass { C.is_of commons.now pass.old }
+    requires hand { All (Fits w.now) hand.old.units }
+    ensures pass { C.is_of commons.now pass.new }
+    ensures hand { All (Fits w.now) hand.new.units }
+{
+    let (site, request, wanted) = row;
+    play(commons, pass, w, hand, site, request) == wanted
+}
+
 /// Plays all rows in order.
 pub fn play_all<'w, C: Commons<'w>>(
     rt: &impl Abort,
@@ -203,7 +221,7 @@ pub fn play_all<'w, C: Commons<'w>>(
     ensures pass { C.is_of commons.now pass.new }
     ensures hand { All (Fits w.now) hand.new.units }
 {
-    for (site, request, wanted) in rows {
-        assert!(rt; play(commons, pass, w, hand, *site, *request) == *wanted);
+    for row in rows {
+        assert!(rt; is_heard(commons, pass, w, hand, *row));
     }
 }
